@@ -1,0 +1,8 @@
+-- The bytes of a text are the encoding of its characters.
+use Rattle.std.proofs.Common.{sym, ◌∙◌, ap, encode_utf8_all}
+use Rattle.std.proofs.lemmas.Str.{encodes-chars, IsUtf8-string_bytes}
+use Rattle.serna_kinds.proofs.chars.Chars.as_text.Goals as goal
+
+pub returns-clause-bytes : goal.returns-clause-bytes
+returns-clause-bytes c =
+    c.as_str.ensures.value ∙ sym (encodes-chars _ (IsUtf8-string_bytes c.self.inside.text)) ∙ ap encode_utf8_all c.self.view_is

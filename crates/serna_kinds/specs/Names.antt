@@ -1,0 +1,39 @@
+-- Names, and the table that numbers them (Namespaces in XML 1.0: a name is a URI and a local name, written with a prefix).
+use Rattle.std.specs.Prelude.{◌≡◌, ℕ, ◌++◌, ◌&&◌, Bool, false, List, [], ◌∷◌, Option, Some, None, bytes_eq, slice_get, if◌then◌else◌}
+use Rattle.std.specs.List.{position_or_len}
+use Rattle.serna_kinds.specs.declared.cells.NameId.{NameId}
+
+-- a name by the bytes of its three parts
+pub record NameParts : Type 0 where
+  pub uri : List ℕ
+  pub local : List ℕ
+  pub prefix : List ℕ
+
+-- an unprefixed name in no namespace
+abbrev pub plain_name : List ℕ → NameParts
+plain_name local = record { uri = []; local = local; prefix = [] }
+
+abbrev pub is_same_name : NameParts → NameParts → Bool
+is_same_name a b = bytes_eq a.uri b.uri && bytes_eq a.local b.local && bytes_eq a.prefix b.prefix
+
+-- the table has got further names, and no number that was given has changed
+abbrev pub Grows : List NameParts → List NameParts → Type 0
+Grows old new = (more : List NameParts) × (new ≡ old ++ more)
+
+-- the number of a name: its place among the names of the table
+abbrev pub id_of : List NameParts → NameParts → NameId
+id_of names name = record { 0 = position_or_len (is_same_name name) names }
+
+-- equal URIs and equal local names, whatever the prefixes (XPath 1.0, section 5.1: expanded names)
+abbrev pub are_same : List NameParts → NameId → NameId → Bool
+are_same names a b = elim (slice_get names a.0) [ None ↦ false | Some x ↦ elim (slice_get names b.0) [ None ↦ false | Some y ↦ bytes_eq x.uri y.uri && bytes_eq x.local y.local ] ]
+
+-- a declared prefix and the URI that it stands for
+pub record Space : Type 0 where
+  pub prefix : List ℕ
+  pub uri : List ℕ
+
+-- the URI of the first declaration of a prefix
+abbrev pub uri_of : List Space → List ℕ → Option (List ℕ)
+uri_of [] prefix = None
+uri_of (space ∷ spaces) prefix = if bytes_eq space.prefix prefix then Some space.uri else uri_of spaces prefix

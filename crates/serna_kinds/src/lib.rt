@@ -1,0 +1,13 @@
+//! The types that every other crate speaks of: texts, names, nodes, the cells of a source and their
+//! values, and the tape on which an evaluation notes the cells that it reads.
+#![tactic(auto)]
+
+mod cells;
+mod chars;
+
+pub use cells::{AttrPair, Cell, CellValue, Facet, Kind, NameId, NodeName, NodeRef, SourceView};
+pub use chars::Chars;
+pub use sqlite_items::Items;
+
+/// Want of memory: the one answer that any call which takes memory may give.
+pub type NoMemory = std::alloc::AllocError;
