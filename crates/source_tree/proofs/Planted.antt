@@ -1,0 +1,325 @@
+-- The arena of a tree stands for the source that the tree begins, and this source is proper.
+use Rattle.std.proofs.Common.{◌≡◌, ℕ, zero, suc, ◌+◌, ◌-◌, ◌*◌, ◌<◌, ◌≤◌, inl, inr, List, [], ◌∷◌, ◌++◌, map, length, max, Option, Some, None, slice_get, set, get_or, refl, sym, ap, ◌∙◌, subst, arith, append_assoc, length-append}
+use Rattle.std.proofs.lemmas.Bool.{cases_lt}
+use Rattle.std.proofs.lemmas.List.{append-nil, length_push}
+use Rattle.std.proofs.lemmas.Option.{slice_get_past}
+use Rattle.std.specs.List.{AllByRecursion}
+use Rattle.serna_kinds.specs.declared.cells.NodeName.{NodeName}
+use Rattle.serna_kinds.specs.declared.cells.Cell.{Cell}
+use Rattle.serna_kinds.specs.Names.{NameParts}
+use Rattle.tree_lines.specs.declared.tree.TreeItem.{TreeItem}
+use Rattle.tree_lines.specs.declared.tree.TreeItem.TheVariants as item
+use Rattle.tree_lines.specs.Given.{Given, count_of, items_of, IsWhole, AreTexts}
+use Rattle.tree_lines.specs.Given as given
+use Rattle.tree_lines.specs.Tokens.{without_line, IsNamed}
+use Rattle.source_model.specs.Source.{Body, Forest, Source, numbers}
+use Rattle.source_model.specs.Source as source
+use Rattle.source_model.specs.Cells.{Spot, named, or_else, spot_in, cell_of}
+use Rattle.source_model.specs.Proper.{uses, depth_of, AreAttributes, AreNodes, BeginsNoText, IsTop, IsProper}
+use Rattle.source_tree.specs.Begun.{numbered, begun}
+use Rattle.source_tree.specs.declared.node.Node.{Node}
+use Rattle.source_tree.specs.declared.node.NodeBody.TheVariants as stored
+use Rattle.source_tree.specs.Arena.{body_of, stored_cell, sprout, siblings, forest_of, source_of, IsArena, heads, nodes_of, arena_of, leaf}
+use Rattle.source_tree.specs.Growing.{EndsHere, IsPlanted, PlantsAll}
+use Rattle.source_tree.proofs.Planting.{length-nodes_of}
+use Rattle.source_tree.proofs.Numbering.{at_other, count_same, count_other, IsSpotOf, facets_of, slice_get_at, spot_in-numbered, spot_in-outside, uses-numbered, uses-outside, numbers-numbered}
+
+-- the arena reads back as the tree
+forest_of-nil : (nodes : List Node) (left : ℕ) → forest_of nodes left [] ≡ source.none
+unfolding forest_of
+forest_of-nil nodes zero = refl
+forest_of-nil nodes (suc left) = refl
+
+forest_of-suc : (nodes : List Node) (left : ℕ) (ks : List NodeName) → forest_of nodes (suc left) ks ≡ siblings nodes (forest_of nodes left) ks
+unfolding forest_of
+forest_of-suc nodes left ks = refl
+
+-- the arena has these nodes from place k on
+pub record StandsAt (nodes : List Node) (k : ℕ) (part : List Node) : Type 0 where
+  pub before : List Node
+  pub after : List Node
+  pub whole : nodes ≡ before ++ (part ++ after)
+  pub place : length before ≡ k
+
+stands_first : (nodes : List Node) (k : ℕ) (x : Node) (part : List Node) → StandsAt nodes k (x ∷ part) → slice_get nodes k ≡ Some x
+stands_first nodes k x part s = ap (λ ns. slice_get ns k) s.whole ∙ slice_get_at s.before x (part ++ s.after) k s.place
+
+stands_rest : (nodes : List Node) (k : ℕ) (x : Node) (part : List Node) → StandsAt nodes k (x ∷ part) → StandsAt nodes (k + 1) part
+stands_rest nodes k x part s = record {
+  before = s.before ++ x ∷ [];
+  after = s.after;
+  whole = s.whole ∙ sym (append_assoc s.before (x ∷ []) (part ++ s.after));
+  place = length_push s.before x ∙ ap (λ n. n + 1) s.place;
+}
+
+stands_left : (nodes : List Node) (k : ℕ) (xs ys : List Node) → StandsAt nodes k (xs ++ ys) → StandsAt nodes k xs
+stands_left nodes k xs ys s = record {
+  before = s.before;
+  after = ys ++ s.after;
+  whole = s.whole ∙ ap (λ zs. s.before ++ zs) (append_assoc xs ys s.after);
+  place = s.place;
+}
+
+stands_right : (nodes : List Node) (k n : ℕ) (xs ys : List Node) → length xs ≡ n → StandsAt nodes k (xs ++ ys) → StandsAt nodes (k + n) ys
+stands_right nodes k n xs ys size s = record {
+  before = s.before ++ xs;
+  after = s.after;
+  whole = s.whole ∙ ap (λ zs. s.before ++ zs) (append_assoc xs ys s.after) ∙ sym (append_assoc s.before xs (ys ++ s.after));
+  place = omega (arith, length-append s.before xs, s.place, size);
+}
+
+sprout-some : (below : List NodeName → Forest) (k : ℕ) (o : Option Node) (node : Node) (rest : Forest) → o ≡ Some node → sprout below k o rest ≡ source.node k (body_of node.body) (below node.kids) rest
+sprout-some below k o node rest e = ap (λ p. sprout below k p rest) e
+
+pub forest_of-nodes_of : (g : Given) (nodes : List Node) (k left : ℕ) (up : NodeName) → StandsAt nodes k (nodes_of k up g) → given.depth_of g ≤ left → forest_of nodes (suc left) (heads k g) ≡ numbered k g
+forest_of-nodes_of given.end nodes k left up s d = forest_of-suc nodes left []
+forest_of-nodes_of (given.text t rest) nodes k left up s d =
+    let later : forest_of nodes (suc left) (heads (k + 1) rest) ≡ numbered (k + 1) rest =
+    forest_of-nodes_of rest nodes (k + 1) left up (stands_rest nodes k (leaf (stored.Text t) up) (nodes_of (k + 1) up rest) s) d in
+    forest_of-suc nodes left (heads k (given.text t rest))
+    ∙ sprout-some (forest_of nodes left) k (slice_get nodes k) (leaf (stored.Text t) up) (siblings nodes (forest_of nodes left) (heads (k + 1) rest)) (stands_first nodes k (leaf (stored.Text t) up) (nodes_of (k + 1) up rest) s)
+    ∙ ap (λ f. source.node k (source.Text t) f (siblings nodes (forest_of nodes left) (heads (k + 1) rest))) (forest_of-nil nodes left)
+    ∙ ap (source.node k (source.Text t) source.none) (sym (forest_of-suc nodes left (heads (k + 1) rest)) ∙ later)
+forest_of-nodes_of (given.comment t rest) nodes k left up s d =
+    let later : forest_of nodes (suc left) (heads (k + 1) rest) ≡ numbered (k + 1) rest =
+    forest_of-nodes_of rest nodes (k + 1) left up (stands_rest nodes k (leaf (stored.Comment t) up) (nodes_of (k + 1) up rest) s) d in
+    forest_of-suc nodes left (heads k (given.comment t rest))
+    ∙ sprout-some (forest_of nodes left) k (slice_get nodes k) (leaf (stored.Comment t) up) (siblings nodes (forest_of nodes left) (heads (k + 1) rest)) (stands_first nodes k (leaf (stored.Comment t) up) (nodes_of (k + 1) up rest) s)
+    ∙ ap (λ f. source.node k (source.Comment t) f (siblings nodes (forest_of nodes left) (heads (k + 1) rest))) (forest_of-nil nodes left)
+    ∙ ap (source.node k (source.Comment t) source.none) (sym (forest_of-suc nodes left (heads (k + 1) rest)) ∙ later)
+forest_of-nodes_of (given.element name attributes content rest) nodes k zero up s d = absurd (omega arith)
+forest_of-nodes_of (given.element name attributes content rest) nodes k (suc left) up s d =
+    let own : Node = record { up = Some up; body = stored.Element name attributes; kids = heads (k + 1) content } in
+    let inner : List Node = nodes_of (k + 1) (named k) content in
+    let others : List Node = nodes_of (k + 1 + count_of content) up rest in
+    let two : StandsAt nodes (k + 1) (inner ++ others) = stands_rest nodes k own (inner ++ others) s in
+    let below : forest_of nodes (suc left) (heads (k + 1) content) ≡ numbered (k + 1) content =
+    forest_of-nodes_of content nodes (k + 1) left (named k) (stands_left nodes (k + 1) inner others two) (omega arith) in
+    let later : forest_of nodes (suc (suc left)) (heads (k + 1 + count_of content) rest) ≡ numbered (k + 1 + count_of content) rest =
+    forest_of-nodes_of rest nodes (k + 1 + count_of content) (suc left) up (stands_right nodes (k + 1) (count_of content) inner others (length-nodes_of (k + 1) (named k) content) two) (omega arith) in
+    let more : List NodeName = heads (k + 1 + count_of content) rest in
+    forest_of-suc nodes (suc left) (heads k (given.element name attributes content rest))
+    ∙ sprout-some (forest_of nodes (suc left)) k (slice_get nodes k) own (siblings nodes (forest_of nodes (suc left)) more) (stands_first nodes k own (inner ++ others) s)
+    ∙ ap (λ f. source.node k (source.Element name attributes) f (siblings nodes (forest_of nodes (suc left)) more)) below
+    ∙ ap (source.node k (source.Element name attributes) (numbered (k + 1) content)) (sym (forest_of-suc nodes (suc left) more) ∙ later)
+
+root_forest : (g : Given) → given.depth_of g ≤ 120 → forest_of (arena_of g) 122 (named 0 ∷ []) ≡ source.node 0 source.Root (numbered 1 g) source.none
+root_forest g d =
+    let stands : StandsAt (arena_of g) 1 (nodes_of 1 (named 0) g) = record {
+      before = record { up = None; body = stored.Root; kids = heads 1 g } ∷ [];
+      after = [];
+      whole = ap (λ ns. record { up = None; body = stored.Root; kids = heads 1 g } ∷ ns) (sym (append-nil (nodes_of 1 (named 0) g)));
+      place = refl;
+    } in
+    forest_of-suc (arena_of g) 121 (named 0 ∷ [])
+    ∙ ap (λ f. source.node 0 source.Root f source.none) (forest_of-nodes_of g (arena_of g) 1 120 (named 0) stands d)
+
+pub source_of-arena_of : (g : Given) → given.depth_of g ≤ 120 → source_of (arena_of g) ≡ begun g
+unfolding source_of begun
+source_of-arena_of g d =
+    let made : length (arena_of g) - 1 ≡ count_of g = omega (arith, length-nodes_of 1 (named 0) g) in
+    ap (λ t. record { tree = t; made = length (arena_of g) - 1; spaces = [] }) (root_forest g d) ∙ ap (λ m. record { tree = source.node 0 source.Root (numbered 1 g) source.none; made = m; spaces = [] }) made
+
+-- its cells are those of the nodes
+both_none : (at : Option Node) (spot : Option Spot) → at ≡ None → spot ≡ None → IsSpotOf at spot
+both_none at spot e f = subst (λ o. IsSpotOf o spot) (sym e) (subst (IsSpotOf None) (sym f) tt)
+
+passed : (node : Option Node) (spot : Option Spot) → IsSpotOf node spot → IsSpotOf node (or_else spot None)
+passed None None is = is
+passed None (Some spot) is = is
+passed (Some node) None is = is
+passed (Some node) (Some spot) is = is
+
+spot_of-arena_of : (g : Given) (n : ℕ) → IsSpotOf (slice_get (arena_of g) n) (spot_in None n (source.node 0 source.Root (numbered 1 g) source.none))
+spot_of-arena_of g zero = (refl, refl, numbers-numbered 1 g)
+spot_of-arena_of g (suc i) =
+    let other : spot_in None (suc i) (source.node 0 source.Root (numbered 1 g) source.none) ≡ or_else (spot_in (Some 0) (suc i) (numbered 1 g)) None =
+    at_other (suc i) 0 _ _ (λ e. absurd (omega arith)) in
+    subst (IsSpotOf (slice_get (nodes_of 1 (named 0) g) i)) (sym other) (elim (cases_lt i (count_of g)) [
+      | inl inside ↦
+          let moved : 1 + i ≡ suc i = omega arith in
+          let h : IsSpotOf (slice_get (nodes_of 1 (named 0) g) i) (spot_in (Some 0) (suc i) (numbered 1 g)) =
+          subst (λ n. IsSpotOf (slice_get (nodes_of 1 (named 0) g) i) (spot_in (Some 0) n (numbered 1 g))) moved (spot_in-numbered g 0 i 1 inside) in
+          passed (slice_get (nodes_of 1 (named 0) g) i) (spot_in (Some 0) (suc i) (numbered 1 g)) h
+      | inr past ↦
+          let nothing : spot_in (Some 0) (suc i) (numbered 1 g) ≡ None = spot_in-outside (Some 0) (suc i) 1 g (inr (omega arith)) in
+          let none_there : slice_get (nodes_of 1 (named 0) g) i ≡ None = slice_get_past (nodes_of 1 (named 0) g) i (omega (arith, length-nodes_of 1 (named 0) g)) in
+          passed (slice_get (nodes_of 1 (named 0) g) i) (spot_in (Some 0) (suc i) (numbered 1 g)) (both_none _ _ none_there nothing)
+    ])
+
+pub cells-arena_of : (g : Given) (cell : Cell) → cell_of (begun g) cell ≡ stored_cell (arena_of g) cell
+unfolding begun
+cells-arena_of g cell = facets_of cell.facet (slice_get (arena_of g) cell.node.0) (spot_in None cell.node.0 (source.node 0 source.Root (numbered 1 g) source.none)) (spot_of-arena_of g cell.node.0)
+
+pub IsArena-arena_of : (g : Given) → IsWhole g → IsArena (arena_of g)
+IsArena-arena_of g w = record {
+  cells = λ cell. ap (λ s. cell_of s cell) (source_of-arena_of g w.shallow) ∙ cells-arena_of g cell;
+  made = omega arith;
+  few = omega (arith, w.few, length-nodes_of 1 (named 0) g);
+}
+
+-- the items of a tree are at most twice as many as its nodes
+pub length-items_of : (g : Given) → length (items_of g) ≤ 2 * count_of g
+length-items_of given.end = omega arith
+length-items_of (given.text t rest) = let h = length-items_of rest in omega arith
+length-items_of (given.comment t rest) = let h = length-items_of rest in omega arith
+length-items_of (given.element name attributes content rest) =
+    let h = length-items_of content in
+    let i = length-items_of rest in
+    omega (arith, length-append (items_of content) (item.Finish ∷ items_of rest))
+
+-- each element's name is one of the table's
+abbrev pub AreNamed : List NameParts → Given → Type 0
+AreNamed names g = AllByRecursion (IsNamed names) (items_of g)
+
+named_left : (names : List NameParts) (xs ys : List TreeItem) → AllByRecursion (IsNamed names) (xs ++ ys) → AllByRecursion (IsNamed names) xs
+named_left names [] ys all = tt
+named_left names (x ∷ xs) ys all = (all.0, named_left names xs ys all.1)
+
+named_right : (names : List NameParts) (xs ys : List TreeItem) → AllByRecursion (IsNamed names) (xs ++ ys) → AllByRecursion (IsNamed names) ys
+named_right names [] ys all = all
+named_right names (x ∷ xs) ys all = named_right names xs ys all.1
+
+IsNamed-without_line : (names : List NameParts) (x : TreeItem) → IsNamed names x → IsNamed names (without_line x)
+IsNamed-without_line names (item.Begin name attributes line) is = is
+IsNamed-without_line names (item.Text t) is = tt
+IsNamed-without_line names (item.Comment t) is = tt
+IsNamed-without_line names item.Finish is = tt
+
+pub named_without_lines : (names : List NameParts) (xs : List TreeItem) → AllByRecursion (IsNamed names) xs → AllByRecursion (IsNamed names) (map without_line xs)
+named_without_lines names [] all = tt
+named_without_lines names (x ∷ xs) all = (IsNamed-without_line names x all.0, named_without_lines names xs all.1)
+
+BeginsNoText-numbered : (k : ℕ) (g : Given) → given.BeginsNoText g → BeginsNoText (numbered k g)
+BeginsNoText-numbered k given.end is = tt
+BeginsNoText-numbered k (given.text t rest) is = is
+BeginsNoText-numbered k (given.comment t rest) is = tt
+BeginsNoText-numbered k (given.element name attributes content rest) is = tt
+
+AreNodes-numbered : (names : List NameParts) (k : ℕ) (g : Given) → AreTexts g → AreNamed names g → AreNodes names (numbered k g)
+AreNodes-numbered names k given.end texts all = tt
+AreNodes-numbered names k (given.text t rest) texts all =
+    (texts.0, texts.1, refl, BeginsNoText-numbered (k + 1) rest texts.2, AreNodes-numbered names (k + 1) rest texts.3 all.1)
+AreNodes-numbered names k (given.comment t rest) texts all = (refl, AreNodes-numbered names (k + 1) rest texts all.1)
+AreNodes-numbered names k (given.element name attributes content rest) texts all = (
+  all.0,
+  subst (AreAttributes names) (sym texts.0) tt,
+  AreNodes-numbered names (k + 1) content texts.1 (named_left names (items_of content) (item.Finish ∷ items_of rest) all.1),
+  AreNodes-numbered names (k + 1 + count_of content) rest texts.2 (named_right names (items_of content) (item.Finish ∷ items_of rest) all.1).1,
+)
+
+depth_of-numbered : (k : ℕ) (g : Given) → depth_of (numbered k g) ≡ given.depth_of g
+depth_of-numbered k given.end = refl
+depth_of-numbered k (given.text t rest) = ap (max 0) (depth_of-numbered (k + 1) rest) ∙ omega arith
+depth_of-numbered k (given.comment t rest) = ap (max 0) (depth_of-numbered (k + 1) rest) ∙ omega arith
+depth_of-numbered k (given.element name attributes content rest) =
+    ap (λ n. max (1 + n) (depth_of (numbered (k + 1 + count_of content) rest))) (depth_of-numbered (k + 1) content)
+    ∙ ap (max (1 + given.depth_of content)) (depth_of-numbered (k + 1 + count_of content) rest)
+
+used_within : (n : ℕ) (g : Given) → 0 < uses n (source.node 0 source.Root (numbered 1 g) source.none) → n ≤ count_of g
+used_within n g used = elim (cases_lt (count_of g) n) [
+  | inl past ↦
+      let own = count_other n 0 (λ e. absurd (omega arith)) in
+      let below = uses-outside n 1 g (inr (omega arith)) in
+      absurd (omega (arith, own, below, used))
+  | inr within ↦ within
+]
+
+used_once : (n : ℕ) (g : Given) → uses n (source.node 0 source.Root (numbered 1 g) source.none) ≤ 1
+used_once zero g =
+    let own = count_same 0 0 refl in
+    let below = uses-outside 0 1 g (inl (omega arith)) in
+    omega (arith, own, below)
+used_once (suc n) g =
+    let own = count_other (suc n) 0 (λ e. absurd (omega arith)) in
+    let below = uses-numbered (suc n) 1 g in
+    omega (arith, own, below)
+
+pub IsProper-begun : (names : List NameParts) (g : Given) → IsWhole g → AreNamed names g → IsProper names (begun g)
+unfolding begun
+IsProper-begun names g w all = record {
+  top = numbered 1 g;
+  rooted = refl;
+  outermost = subst (λ h. IsTop (numbered 1 h)) (sym w.outermost) tt;
+  nodes = AreNodes-numbered names 1 g w.texts all;
+  distinct = λ n. used_once n g;
+  numbered = λ n used. used_within n g used;
+  few = w.few;
+  shallow = let d = depth_of-numbered 1 g in omega (arith, d, w.shallow);
+}
+
+-- the items of a tree tell the tree
+same_items : (g h : Given) (x y : List TreeItem) → EndsHere x → EndsHere y → items_of g ++ x ≡ items_of h ++ y → (g ≡ h) × (x ≡ y)
+same_items given.end given.end x y ends ends₁ e = (refl, e)
+same_items given.end (given.text t rest) [] y ends ends₁ e = cc
+same_items given.end (given.text t rest) (item.Begin n a l ∷ x) y ends ends₁ e = absurd ends
+same_items given.end (given.text t rest) (item.Text u ∷ x) y ends ends₁ e = absurd ends
+same_items given.end (given.text t rest) (item.Comment u ∷ x) y ends ends₁ e = absurd ends
+same_items given.end (given.text t rest) (item.Finish ∷ x) y ends ends₁ e = cc
+same_items given.end (given.comment t rest) [] y ends ends₁ e = cc
+same_items given.end (given.comment t rest) (item.Begin n a l ∷ x) y ends ends₁ e = absurd ends
+same_items given.end (given.comment t rest) (item.Text u ∷ x) y ends ends₁ e = absurd ends
+same_items given.end (given.comment t rest) (item.Comment u ∷ x) y ends ends₁ e = absurd ends
+same_items given.end (given.comment t rest) (item.Finish ∷ x) y ends ends₁ e = cc
+same_items given.end (given.element m b content rest) [] y ends ends₁ e = cc
+same_items given.end (given.element m b content rest) (item.Begin n a l ∷ x) y ends ends₁ e = absurd ends
+same_items given.end (given.element m b content rest) (item.Text u ∷ x) y ends ends₁ e = absurd ends
+same_items given.end (given.element m b content rest) (item.Comment u ∷ x) y ends ends₁ e = absurd ends
+same_items given.end (given.element m b content rest) (item.Finish ∷ x) y ends ends₁ e = cc
+same_items (given.text t rest) given.end x [] ends ends₁ e = cc
+same_items (given.text t rest) given.end x (item.Begin n a l ∷ y) ends ends₁ e = absurd ends₁
+same_items (given.text t rest) given.end x (item.Text u ∷ y) ends ends₁ e = absurd ends₁
+same_items (given.text t rest) given.end x (item.Comment u ∷ y) ends ends₁ e = absurd ends₁
+same_items (given.text t rest) given.end x (item.Finish ∷ y) ends ends₁ e = cc
+same_items (given.text t rest) (given.text u others) x y ends ends₁ e =
+    let tail : items_of rest ++ x ≡ items_of others ++ y = cc in
+    let same : t ≡ u = cc in
+    let h = same_items rest others x y ends ends₁ tail in
+    (ap (λ v. given.text v rest) same ∙ ap (given.text u) h.0, h.1)
+same_items (given.text t rest) (given.comment u others) x y ends ends₁ e = cc
+same_items (given.text t rest) (given.element m b content others) x y ends ends₁ e = cc
+same_items (given.comment t rest) given.end x [] ends ends₁ e = cc
+same_items (given.comment t rest) given.end x (item.Begin n a l ∷ y) ends ends₁ e = absurd ends₁
+same_items (given.comment t rest) given.end x (item.Text u ∷ y) ends ends₁ e = absurd ends₁
+same_items (given.comment t rest) given.end x (item.Comment u ∷ y) ends ends₁ e = absurd ends₁
+same_items (given.comment t rest) given.end x (item.Finish ∷ y) ends ends₁ e = cc
+same_items (given.comment t rest) (given.text u others) x y ends ends₁ e = cc
+same_items (given.comment t rest) (given.comment u others) x y ends ends₁ e =
+    let tail : items_of rest ++ x ≡ items_of others ++ y = cc in
+    let same : t ≡ u = cc in
+    let h = same_items rest others x y ends ends₁ tail in
+    (ap (λ v. given.comment v rest) same ∙ ap (given.comment u) h.0, h.1)
+same_items (given.comment t rest) (given.element m b content others) x y ends ends₁ e = cc
+same_items (given.element n a content rest) given.end x [] ends ends₁ e = cc
+same_items (given.element n a content rest) given.end x (item.Begin m b l ∷ y) ends ends₁ e = absurd ends₁
+same_items (given.element n a content rest) given.end x (item.Text u ∷ y) ends ends₁ e = absurd ends₁
+same_items (given.element n a content rest) given.end x (item.Comment u ∷ y) ends ends₁ e = absurd ends₁
+same_items (given.element n a content rest) given.end x (item.Finish ∷ y) ends ends₁ e = cc
+same_items (given.element n a content rest) (given.text u others) x y ends ends₁ e = cc
+same_items (given.element n a content rest) (given.comment u others) x y ends ends₁ e = cc
+same_items (given.element n a content rest) (given.element m b inner others) x y ends ends₁ e =
+    let same_name : n ≡ m = cc in
+    let same_attributes : a ≡ b = cc in
+    let tail : (items_of content ++ (item.Finish ∷ items_of rest)) ++ x ≡ (items_of inner ++ (item.Finish ∷ items_of others)) ++ y = cc in
+    let h = same_items content inner (item.Finish ∷ (items_of rest ++ x)) (item.Finish ∷ (items_of others ++ y)) tt tt
+    (sym (append_assoc (items_of content) (item.Finish ∷ items_of rest) x) ∙ tail ∙ append_assoc (items_of inner) (item.Finish ∷ items_of others) y) in
+    let later : items_of rest ++ x ≡ items_of others ++ y = let f = h.1 in cc in
+    let i = same_items rest others x y ends ends₁ later in
+    (ap (λ v. given.element v a content rest) same_name ∙ ap (λ v. given.element m v content rest) same_attributes ∙ ap (λ v. given.element m b v rest) h.0 ∙ ap (given.element m b inner) i.0, i.1)
+
+pub items_tell : (g h : Given) → items_of g ≡ items_of h → g ≡ h
+items_tell g h e = (same_items g h [] [] tt tt (ap (λ xs. xs ++ []) e)).0
+
+-- the arena of a whole tree, planted below the document node
+pub planted_whole : (items : List TreeItem) (g : Given) (first r : Node) (nodes pushed : List Node) (to : ℕ) (inner : List NodeName) → map without_line items ≡ items_of g →
+    first.up ≡ None → first.body ≡ stored.Root → pushed ≡ first ∷ [] → r ≡ get_or nodes 0 r → PlantsAll items (named 0) 0 pushed to nodes inner →
+    set nodes 0 (record { up = r.up; body = r.body; kids = inner }) ≡ arena_of g
+planted_whole items g first r nodes pushed to inner is is-up is-body is-pushed is-r all =
+    let p : IsPlanted (named 0) 0 (first ∷ []) g to nodes inner =
+    subst (λ ns. PlantsAll items (named 0) 0 ns to nodes inner) is-pushed all g [] tt (is ∙ sym (append-nil (items_of g))) in
+    let one : nodes ≡ first ∷ nodes_of 1 (named 0) g = p.arena in
+    let read : r ≡ first = is-r ∙ ap (λ ns. get_or ns 0 r) one in
+    ap (λ ns. set ns 0 (record { up = r.up; body = r.body; kids = inner })) one
+    ∙ ap (λ u. record { up = u; body = r.body; kids = inner } ∷ nodes_of 1 (named 0) g) (ap (λ (n : Node). n.up) read ∙ is-up)
+    ∙ ap (λ b. record { up = None; body = b; kids = inner } ∷ nodes_of 1 (named 0) g) (ap (λ (n : Node). n.body) read ∙ is-body)
+    ∙ ap (λ ks. record { up = None; body = stored.Root; kids = ks } ∷ nodes_of 1 (named 0) g) p.numbers
