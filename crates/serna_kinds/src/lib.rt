@@ -4,9 +4,11 @@
 
 mod cells;
 mod chars;
+mod names;
 
 pub use cells::{AttrPair, Cell, CellValue, Facet, Kind, NameId, NodeName, NodeRef, SourceView};
 pub use chars::Chars;
+pub use names::{Name, NameTable, Spaces};
 pub use sqlite_items::Items;
 
 /// Want of memory: the one answer that any call which takes memory may give.
