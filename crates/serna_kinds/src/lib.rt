@@ -15,3 +15,6 @@ pub use tape::Tape;
 
 /// Want of memory: the one answer that any call which takes memory may give.
 pub type NoMemory = std::alloc::AllocError;
+
+#[cfg(test)]
+mod tests;
