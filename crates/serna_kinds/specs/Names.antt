@@ -1,7 +1,8 @@
 -- Names, and the table that numbers them (Namespaces in XML 1.0: a name is a URI and a local name, written with a prefix).
 use Rattle.std.specs.Prelude.{◌≡◌, ℕ, ◌++◌, ◌&&◌, Bool, false, List, [], ◌∷◌, Option, Some, None, bytes_eq, slice_get, if◌then◌else◌}
-use Rattle.std.specs.List.{position_or_len}
+use Rattle.std.specs.List.{position_or_len, list_any}
 use Rattle.serna_kinds.specs.declared.cells.NameId.{NameId}
+use Rattle.serna_kinds.specs.declared.names.Name.{Name}
 
 -- a name by the bytes of its three parts
 pub record NameParts : Type 0 where
@@ -9,12 +10,27 @@ pub record NameParts : Type 0 where
   pub local : List ℕ
   pub prefix : List ℕ
 
+abbrev pub name_parts : List ℕ → List ℕ → List ℕ → NameParts
+name_parts uri local prefix = record { uri = uri; local = local; prefix = prefix }
+
+-- the parts of a name that the code hands out
+abbrev pub parts_of : Name → NameParts
+parts_of name = name_parts name.uri.now name.local.now name.prefix.now
+
 -- an unprefixed name in no namespace
 abbrev pub plain_name : List ℕ → NameParts
 plain_name local = record { uri = []; local = local; prefix = [] }
 
 abbrev pub is_same_name : NameParts → NameParts → Bool
 is_same_name a b = bytes_eq a.uri b.uri && bytes_eq a.local b.local && bytes_eq a.prefix b.prefix
+
+-- the table with a name: a name that is there adds nothing, another goes last
+abbrev pub with_name : List NameParts → NameParts → List NameParts
+with_name names name = if list_any (is_same_name name) names then names else names ++ name ∷ []
+
+-- no name stands at two places
+abbrev pub AreDistinct : List NameParts → Type 0
+AreDistinct names = (i j : ℕ) (name : NameParts) → slice_get names i ≡ Some name → slice_get names j ≡ Some name → i ≡ j
 
 -- the table has got further names, and no number that was given has changed
 abbrev pub Grows : List NameParts → List NameParts → Type 0

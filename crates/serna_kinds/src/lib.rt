@@ -4,10 +4,17 @@
 
 mod cells;
 mod chars;
+mod names;
+mod tape;
 
 pub use cells::{AttrPair, Cell, CellValue, Facet, Kind, NameId, NodeName, NodeRef, SourceView};
 pub use chars::Chars;
+pub use names::{Name, NameTable, Spaces};
 pub use sqlite_items::Items;
+pub use tape::Tape;
 
 /// Want of memory: the one answer that any call which takes memory may give.
 pub type NoMemory = std::alloc::AllocError;
+
+#[cfg(test)]
+mod tests;
