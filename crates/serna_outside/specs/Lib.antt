@@ -1,1 +1,4 @@
+pub mod Counts
+pub mod MemorySink
+pub mod MemorySource
 pub mod Outside
