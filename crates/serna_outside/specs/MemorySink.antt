@@ -31,19 +31,19 @@ taken_of put.Failed = 0
 -- what a write leaves: the bytes that it took stand after those held, with one call more, and one fault more where it failed
 abbrev pub after_write : SinkState → List ℕ → Put → SinkState
 after_write sink piece result = record {
-    held = sink.held ++ take (taken_of result) piece;
-    failing = sink.failing;
-    room = sink.room;
-    calls = raised sink.calls;
-    faults = faults_after_write sink.faults result;
-  }
+  held = sink.held ++ take (taken_of result) piece;
+  failing = sink.failing;
+  room = sink.room;
+  calls = raised sink.calls;
+  faults = faults_after_write sink.faults result;
+}
 
 -- what finish leaves: the same bytes, one call more, and one fault more where it answered false
 abbrev pub after_finish : SinkState → Bool → SinkState
 after_finish sink result = record {
-    held = sink.held;
-    failing = sink.failing;
-    room = sink.room;
-    calls = raised sink.calls;
-    faults = faults_after_finish sink.faults result;
-  }
+  held = sink.held;
+  failing = sink.failing;
+  room = sink.room;
+  calls = raised sink.calls;
+  faults = faults_after_finish sink.faults result;
+}

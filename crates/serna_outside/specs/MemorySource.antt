@@ -31,9 +31,9 @@ read_answer source room = if is_to_fail source.failing (raised source.calls) the
 -- what a read leaves: the bytes past those that it gave, one call more, and one fault more where it failed
 abbrev pub after_read : SourceState → Got → SourceState
 after_read source result = record {
-    left = drop (count_of result) source.left;
-    failing = source.failing;
-    most = source.most;
-    calls = raised source.calls;
-    faults = faults_after_read source.faults result;
-  }
+  left = drop (count_of result) source.left;
+  failing = source.failing;
+  most = source.most;
+  calls = raised source.calls;
+  faults = faults_after_read source.faults result;
+}

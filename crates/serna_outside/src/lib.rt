@@ -10,6 +10,8 @@ mod memory_source;
 mod read_source;
 mod steps;
 mod sure_source;
+#[cfg(test)]
+mod tests;
 mod traits;
 mod write_sink;
 
