@@ -1,5 +1,5 @@
 -- A read that copies the front of what is left keeps the contract of a source.
-use Rattle.std.proofs.Common.{◌≡◌, ℕ, zero, suc, ◌<◌, ◌≤◌, false, eqb, List, [], ◌++◌, length, take, drop, Some, refl, sym, ap, ◌∙◌, arith, rules, tests}
+use Rattle.std.proofs.Common.{◌≡◌, ℕ, zero, suc, ◌≤◌, false, eqb, List, [], ◌++◌, length, take, drop, Some, refl, sym, ap, ◌∙◌, arith, rules, tests}
 use Rattle.std.proofs.lemmas.List.{take-append-drop, take_at, length-take-le}
 use Rattle.serna_outside.specs.declared.traits.Got.{Got}
 use Rattle.serna_outside.specs.declared.traits.Got.TheVariants as got

@@ -1,5 +1,5 @@
 -- A sink that keeps its bytes in memory (this project's own).
-use Rattle.std.specs.Prelude.{ℕ, ◌-◌, ◌==◌, ◌||◌, min, Bool, not, nat_le, List, ◌++◌, length, take, if◌then◌else◌}
+use Rattle.std.specs.Prelude.{ℕ, ◌-◌, ◌||◌, min, Bool, nat_le, List, ◌++◌, length, take, if◌then◌else◌}
 use Rattle.serna_outside.specs.declared.traits.Put.{Put}
 use Rattle.serna_outside.specs.declared.traits.Put.TheVariants as put
 use Rattle.serna_outside.specs.Counts.{raised, faults_after_write, faults_after_finish, is_to_fail}

@@ -1,4 +1,4 @@
-use Rattle.std.proofs.Common.{◌≡◌, ◌<◌, ◌≤◌, length, drop, [], arith}
+use Rattle.std.proofs.Common.{arith}
 use Rattle.std.proofs.lemmas.Grind.{common_steps}
 use Rattle.serna_outside.proofs.ReadLaws.{Reads-copied}
 use Rattle.serna_outside.proofs.memory_source.MemorySourceSource.read.Goals as goal
