@@ -1,0 +1,99 @@
+-- The numbers of names do not show in the text of the view.
+use Rattle.std.proofs.Common.{◌≡◌, ℕ, zero, suc, ◌+◌, ◌==◌, List, [], ◌∷◌, ◌++◌, Bool, true, false, Option, Some, None, if◌then◌else◌, refl, sym, ap, ◌∙◌}
+use Rattle.std.specs.List.{flat_map}
+use Rattle.std.specs.Str.{chars}
+use Rattle.std.specs.Option.{option_map}
+use Rattle.serna_kinds.specs.Names.{NameParts}
+use Rattle.tree_lines.specs.Written.{Written}
+use Rattle.tree_lines.specs.Written as written
+use Rattle.tree_lines.specs.Given.{numbered_names, given_of, count_of}
+use Rattle.source_model.specs.Source.{Body, Forest, Source, numbers}
+use Rattle.source_model.specs.Source as source
+use Rattle.source_model.specs.Cells.{Spot, or_else, spot_in}
+use Rattle.source_model.specs.PlainText.{own_text, spot_text, node_text, view_text}
+use Rattle.source_tree.specs.Begun.{numbered, begun}
+
+-- the forest with one name in place of every name
+abbrev unnamed_body : Body → Body
+unnamed_body source.Root = source.Root
+unnamed_body (source.Element name attributes) = source.Element (record { 0 = 0 }) []
+unnamed_body (source.Text t) = source.Text t
+unnamed_body (source.Comment t) = source.Comment t
+
+abbrev unnamed : Forest → Forest
+unnamed source.none = source.none
+unnamed (source.node n body kids rest) = source.node n (unnamed_body body) (unnamed kids) (unnamed rest)
+
+abbrev unnamed_spot : Spot → Spot
+unnamed_spot spot = record { up = spot.up; body = unnamed_body spot.body; kids = unnamed spot.kids }
+
+numbers-unnamed : (f : Forest) → numbers (unnamed f) ≡ numbers f
+numbers-unnamed source.none = refl
+numbers-unnamed (source.node n body kids rest) = ap (λ ns. n ∷ ns) (numbers-unnamed rest)
+
+or_else-map : (x y : Option Spot) → option_map unnamed_spot (or_else x y) ≡ or_else (option_map unnamed_spot x) (option_map unnamed_spot y)
+or_else-map None y = refl
+or_else-map (Some x) y = refl
+
+map-if : (b : Bool) (x y : Option Spot) → option_map unnamed_spot (if b then x else y) ≡ (if b then option_map unnamed_spot x else option_map unnamed_spot y)
+map-if true x y = refl
+map-if false x y = refl
+
+spot_in-unnamed : (up : Option ℕ) (n : ℕ) (f : Forest) → spot_in up n (unnamed f) ≡ option_map unnamed_spot (spot_in up n f)
+spot_in-unnamed up n source.none = refl
+spot_in-unnamed up n (source.node k body kids rest) =
+    let later : or_else (spot_in (Some k) n (unnamed kids)) (spot_in up n (unnamed rest)) ≡ option_map unnamed_spot (or_else (spot_in (Some k) n kids) (spot_in up n rest)) =
+    ap (λ o. or_else o (spot_in up n (unnamed rest))) (spot_in-unnamed (Some k) n kids) ∙ ap (or_else (option_map unnamed_spot (spot_in (Some k) n kids))) (spot_in-unnamed up n rest)
+    ∙ sym (or_else-map (spot_in (Some k) n kids) (spot_in up n rest)) in
+    ap (λ o. if n == k then Some (record { up = up; body = unnamed_body body; kids = unnamed kids }) else o) later
+    ∙ sym (map-if (n == k) (Some (record { up = up; body = body; kids = kids })) (or_else (spot_in (Some k) n kids) (spot_in up n rest)))
+
+own_text-unnamed : (body : Body) (inner : List ℕ) → own_text (unnamed_body body) inner ≡ own_text body inner
+own_text-unnamed source.Root inner = refl
+own_text-unnamed (source.Element name attributes) inner = refl
+own_text-unnamed (source.Text t) inner = refl
+own_text-unnamed (source.Comment t) inner = refl
+
+flat_map-same : (f g : ℕ → List ℕ) → ((n : ℕ) → f n ≡ g n) → (ns : List ℕ) → flat_map f ns ≡ flat_map g ns
+flat_map-same f g same [] = refl
+flat_map-same f g same (n ∷ ns) = ap (λ xs. xs ++ flat_map f ns) (same n) ∙ ap (λ xs. g n ++ xs) (flat_map-same f g same ns)
+
+spot_text-unnamed : (f g : ℕ → List ℕ) → ((n : ℕ) → f n ≡ g n) → (spot : Option Spot) → spot_text f (option_map unnamed_spot spot) ≡ spot_text g spot
+spot_text-unnamed f g same None = refl
+spot_text-unnamed f g same (Some spot) =
+    own_text-unnamed spot.body (flat_map f (numbers (unnamed spot.kids)))
+    ∙ ap (own_text spot.body) (ap (flat_map f) (numbers-unnamed spot.kids) ∙ flat_map-same f g same (numbers spot.kids))
+
+node_text-unnamed : (left : ℕ) (s t : Source) (n : ℕ) → unnamed s.tree ≡ t.tree → node_text left t n ≡ node_text left s n
+unfolding node_text
+node_text-unnamed zero s t n same = refl
+node_text-unnamed (suc left) s t n same =
+    ap (λ f. spot_text (node_text left t) (spot_in None n f)) (sym same)
+    ∙ ap (spot_text (node_text left t)) (spot_in-unnamed None n s.tree)
+    ∙ spot_text-unnamed (node_text left t) (node_text left s) (λ m. node_text-unnamed left s t m same) (spot_in None n s.tree)
+
+-- the tree without names is the same, whatever table numbers them
+count_of-with : (names : List NameParts) (d : Written) (names₁ : List NameParts) → count_of (numbered_names names d) ≡ count_of (numbered_names names₁ d)
+count_of-with names written.end names₁ = refl
+count_of-with names (written.text t rest) names₁ = ap (λ n. 1 + n) (count_of-with names rest names₁)
+count_of-with names (written.element n c r) names₁ =
+    ap (λ m. 1 + m + count_of (numbered_names names r)) (count_of-with names c names₁) ∙ ap (λ m. 1 + count_of (numbered_names names₁ c) + m) (count_of-with names r names₁)
+
+unnamed-numbered : (names names₁ : List NameParts) (k : ℕ) (d : Written) → unnamed (numbered k (numbered_names names d)) ≡ unnamed (numbered k (numbered_names names₁ d))
+unnamed-numbered names names₁ k written.end = refl
+unnamed-numbered names names₁ k (written.text t rest) = ap (λ f. source.node k (source.Text (chars t)) source.none f) (unnamed-numbered names names₁ (k + 1) rest)
+unnamed-numbered names names₁ k (written.element n c r) =
+    ap (λ f. source.node k (source.Element (record { 0 = 0 }) []) f (unnamed (numbered (k + 1 + count_of (numbered_names names c)) (numbered_names names r)))) (unnamed-numbered names names₁ (k + 1) c)
+    ∙ ap (λ m. source.node k (source.Element (record { 0 = 0 }) []) (unnamed (numbered (k + 1) (numbered_names names₁ c))) (unnamed (numbered (k + 1 + m) (numbered_names names r)))) (count_of-with names c names₁)
+    ∙ ap (source.node k (source.Element (record { 0 = 0 }) []) (unnamed (numbered (k + 1) (numbered_names names₁ c)))) (unnamed-numbered names names₁ (k + 1 + count_of (numbered_names names₁ c)) r)
+
+pub view_text-renamed : (names names₁ : List NameParts) (document : Written) → view_text (begun (given_of names document)) ≡ view_text (begun (given_of names₁ document))
+unfolding view_text begun
+view_text-renamed names names₁ document =
+    let d : Written = written.joined document in
+    let empty : Source = record { tree = source.node 0 source.Root (unnamed (numbered 1 (numbered_names names d))) source.none; made = 0; spaces = [] } in
+    sym (node_text-unnamed 200 (record { tree = source.node 0 source.Root (numbered 1 (numbered_names names d)) source.none; made = count_of (numbered_names names d); spaces = [] }) empty 0 refl)
+    ∙ node_text-unnamed 200 (record { tree = source.node 0 source.Root (numbered 1 (numbered_names names₁ d)) source.none; made = count_of (numbered_names names₁ d); spaces = [] }) empty 0
+    (ap (λ f. source.node 0 source.Root f source.none) (unnamed-numbered names₁ names 1 d))
+
+pub ruleset all = view_text-renamed

@@ -1,0 +1,20 @@
+ghost use Rattle.std.specs.Prelude.{◌≡◌, ℕ, List};
+ghost use Rattle.serna_kinds.specs.Names.{NameParts};
+ghost use Rattle.tree_lines.specs.Written.{Written};
+ghost use Rattle.tree_lines.specs.Given.{given_of};
+ghost use Rattle.source_model.specs.PlainText.{view_text};
+ghost use Rattle.source_tree.specs.Begun.{begun};
+ghost use Rattle.plain_editor.specs.Input.{IsInput};
+
+/// An input has one reading at most: one document and one script.
+#[tactic(auto, using(crate::proofs::Readings::one_reading))]
+pub fn one_reading()
+    ensures { (input : List ℕ) (d e : Written) (s t : List (List ℕ)) → IsInput input d s → IsInput input e t → (d ≡ e) × (s ≡ t) }
+{}
+
+/// Under which numbers a table keeps the names of a document does not show in the text of the view.
+#[tactic(auto, using(crate::proofs::Renamed::all))]
+pub fn names_do_not_show()
+    ensures { (names others : List NameParts) (document : Written) →
+        view_text (begun (given_of names document)) ≡ view_text (begun (given_of others document)) }
+{}

@@ -1,0 +1,7 @@
+//! The plain editor: which inputs are accepted, and what is answered to them. It is the meaning of the whole program, as
+//! definitions (`specs/`), and the functions here carry the laws that make it a meaning.
+#![tactic(auto)]
+
+mod laws;
+
+pub use laws::{names_do_not_show, one_reading};

@@ -1,0 +1,15 @@
+//! The top call of the program: from the bytes of an input to the bytes of its answers.
+#![tactic(auto)]
+
+mod offer;
+mod read;
+mod run;
+mod sections;
+mod status;
+mod top;
+mod view;
+#[cfg(test)]
+mod tests;
+
+pub use status::Status;
+pub use top::serna_alone;
