@@ -1,8 +1,10 @@
 -- What the program writes for an input, and the status that it ends with (this project's own).
-use Rattle.std.specs.Prelude.{◌≡◌, ℕ, List, [], ◌∷◌}
+use Rattle.std.specs.Prelude.{◌≡◌, ℕ, List, [], ◌∷◌, Option}
 use Rattle.tree_lines.specs.Written.{Written}
 use Rattle.plain_editor.specs.Input.{IsInput}
 use Rattle.plain_editor.specs.Editor.{start, replies}
+use Rattle.serna_outside.specs.Outside.{Appends, Rose}
+use Rattle.serna_main.specs.Outside.{AppendsFront}
 use Rattle.serna_main.specs.declared.status.Status.{Status}
 use Rattle.serna_main.specs.declared.status.Status.TheVariants as status
 
@@ -32,3 +34,45 @@ IsWhole status.BadWords = ⊥
 IsWhole status.ReadFault = ⊥
 IsWhole status.WriteFault = ⊥
 IsWhole status.NoMemory = ⊥
+
+-- an input that was read is answered so: what the sink held and holds, its count of faults, and that it was finished
+pub record IsAnswered (input : List ℕ) (ended : Status) (held held₁ : Option (List ℕ)) (faults faults₁ : ℕ) (finished : Type 0) : Type 0 where
+  pub out : IsWhole ended → (bytes : List ℕ) × IsOut input bytes ended × Appends held held₁ bytes
+  pub front : (bytes : List ℕ) (other : Status) → IsOut input bytes other → AppendsFront held held₁ bytes
+  pub closed : ended ≡ status.Ok → finished
+  pub kept : ended ≡ status.Ok → faults₁ ≡ faults
+  pub write_fault : ended ≡ status.WriteFault → Rose faults faults₁
+  pub no_read_fault : ended ≡ status.ReadFault → ⊥
+  pub no_words : ended ≡ status.BadWords → ⊥
+
+-- how a run is closed: the status stays, but an Ok whose sink can't be finished
+abbrev pub IsClosed : Status → Status → ℕ → ℕ → Type 0 → Type 0
+IsClosed status.Ok status.Ok faults faults₁ finished = finished × (faults₁ ≡ faults)
+IsClosed status.Ok status.WriteFault faults faults₁ finished = Rose faults faults₁
+IsClosed status.Ok status.BadWords faults faults₁ finished = ⊥
+IsClosed status.Ok status.InputRefused faults faults₁ finished = ⊥
+IsClosed status.Ok status.ReadFault faults faults₁ finished = ⊥
+IsClosed status.Ok status.NoMemory faults faults₁ finished = ⊥
+IsClosed status.BadWords ended faults faults₁ finished = ended ≡ status.BadWords
+IsClosed status.InputRefused ended faults faults₁ finished = ended ≡ status.InputRefused
+IsClosed status.ReadFault ended faults faults₁ finished = ended ≡ status.ReadFault
+IsClosed status.WriteFault ended faults faults₁ finished = ended ≡ status.WriteFault
+IsClosed status.NoMemory ended faults faults₁ finished = ended ≡ status.NoMemory
+
+-- a script's run ends so
+abbrev pub IsRun : Status → Type 0
+IsRun status.Ok = Unit {0}
+IsRun status.WriteFault = Unit {0}
+IsRun status.NoMemory = Unit {0}
+IsRun status.BadWords = ⊥
+IsRun status.InputRefused = ⊥
+IsRun status.ReadFault = ⊥
+
+-- the status where the sink can't be finished
+abbrev pub spoiled_status : Status → Status
+spoiled_status status.Ok = status.WriteFault
+spoiled_status status.BadWords = status.BadWords
+spoiled_status status.InputRefused = status.InputRefused
+spoiled_status status.ReadFault = status.ReadFault
+spoiled_status status.WriteFault = status.WriteFault
+spoiled_status status.NoMemory = status.NoMemory

@@ -4,12 +4,7 @@
 mod offer;
 mod read;
 mod run;
-mod sections;
 mod status;
-mod top;
 mod view;
-#[cfg(test)]
-mod tests;
 
 pub use status::Status;
-pub use top::serna_alone;

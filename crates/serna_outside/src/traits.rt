@@ -1,4 +1,4 @@
-ghost use Rattle.std.specs.Prelude.{◌≡◌, ℕ, ◌<◌, length, List, Option};
+ghost use Rattle.std.specs.Prelude.{◌≡◌, ℕ, ◌<◌, length, IsTrue, List, Option};
 ghost use Rattle.serna_outside.specs.Outside.{Reads, CountsRead, Writes, CountsWrite, CountsFinish};
 
 /// What a read gave: so many bytes at the front of the buffer, the end of the source, or a fault.
@@ -42,6 +42,9 @@ pub trait Sink {
     /// How many faults there were so far, up to 2^64 - 1. The count never falls.
     ghost faults: { Self → ℕ };
 
+    /// That nothing was written since `finish` answered true, where the sink tells that.
+    ghost is_finished: { Self → Type 0 } = { λ _. Unit {0} };
+
     /// Appends a prefix of a piece that is not empty.
     ///
     /// `Took(n)` appends the first 1 to `piece.len()` bytes. After `Failed` what is held is the same, and the count of
@@ -55,5 +58,6 @@ pub trait Sink {
     /// only where the count of faults rises.
     fn finish(&mut self) -> bool
         ensures held { held self.new ≡ held self.old }
+        ensures finished { IsTrue result → is_finished self.new }
         ensures counted { CountsFinish (faults self.old) (faults self.new) result };
 }
