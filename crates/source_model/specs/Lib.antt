@@ -1,0 +1,4 @@
+pub mod Cells
+pub mod PlainText
+pub mod Proper
+pub mod Source

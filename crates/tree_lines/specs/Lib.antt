@@ -1,0 +1,4 @@
+pub mod Given
+pub mod Tokens
+pub mod Written
+pub mod Whole
