@@ -1,4 +1,5 @@
 pub mod Given
+pub mod Reading
 pub mod Tokens
 pub mod Written
 pub mod Whole
