@@ -64,3 +64,15 @@ shown reading rest = reading.items ++ with_item (item.Text reading.text) rest
 abbrev pub IsOther : List ℕ → Type 0
 IsOther [] = Unit {0}
 IsOther (c ∷ t) = (c ≢ 40) × (c ≢ 45) × (c ≢ 41)
+
+-- the text that was waiting as an item, and none where it is empty
+abbrev pub text_item : List ℕ → List TreeItem
+text_item [] = []
+text_item (c ∷ cs) = item.Text (c ∷ cs) ∷ []
+
+-- an element's beginning or its end
+abbrev pub IsTag : TreeItem → Type 0
+IsTag (item.Begin name attributes line) = Unit {0}
+IsTag (item.Text t) = ⊥
+IsTag (item.Comment t) = ⊥
+IsTag item.Finish = Unit {0}

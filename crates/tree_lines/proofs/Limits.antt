@@ -1,0 +1,1 @@
+-- The limits of a section, on a document and on its items.
