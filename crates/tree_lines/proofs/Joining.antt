@@ -89,7 +89,7 @@ abbrev pub BeginsTag : List TreeItem → Type 0
 BeginsTag [] = Unit {0}
 BeginsTag (x ∷ rest) = IsTag x
 
-chars-text : (c : ℕ) (cs u : List ℕ) → IsAscii (c ∷ cs) → chars ((c ∷ cs) ++ u) ≡ (c ∷ cs) ++ chars u
+pub chars-text : (c : ℕ) (cs u : List ℕ) → IsAscii (c ∷ cs) → chars ((c ∷ cs) ++ u) ≡ (c ∷ cs) ++ chars u
 chars-text c cs u a = chars-append (c ∷ cs) u (IsUtf8-from_ascii (c ∷ cs) a) ∙ ap (λ (x : List ℕ). x ++ chars u) (chars-IsAscii (c ∷ cs) a)
 
 -- a text before a document's items
