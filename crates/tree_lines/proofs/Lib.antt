@@ -1,3 +1,4 @@
 pub mod Grammar
 pub mod Joining
 pub mod Limits
+pub mod Steps

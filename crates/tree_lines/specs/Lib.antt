@@ -1,4 +1,5 @@
 pub mod Given
+pub mod Kind
 pub mod Reading
 pub mod Tokens
 pub mod Written

@@ -76,3 +76,11 @@ IsTag (item.Begin name attributes line) = Unit {0}
 IsTag (item.Text t) = ⊥
 IsTag (item.Comment t) = ⊥
 IsTag item.Finish = Unit {0}
+
+-- what a reader keeps to: how many elements are open, the items and how many of them are nodes, and the bytes of the waiting text
+pub record IsSound (depth : ℕ) (items : List TreeItem) (nodes bytes : ℕ) : Type 0 where
+  pub shallow : depth ≤ 120
+  pub counted : nodes_in items ≡ nodes
+  pub few : nodes ≤ 1000000
+  pub short : AllByRecursion IsShort items
+  pub waiting : bytes ≤ 16384

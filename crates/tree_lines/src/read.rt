@@ -1,0 +1,233 @@
+ghost use Rattle.std.specs.Prelude.{◌≡◌, ℕ, ◌+◌, ◌<◌, ◌≤◌, List, [], ◌∷◌, ◌++◌, length, map, IfOk, OnOk, IsTrue};
+ghost use Rattle.std.specs.List.{AllByRecursion, list_all};
+ghost use Rattle.std.specs.Str.{chars, IsAscii};
+ghost use Rattle.serna_kinds.specs.Names.{NameParts, Grows, plain_name, id_of};
+ghost use Rattle.serna_kinds.specs.declared.cells.NameId.{NameId};
+ghost use Rattle.tree_lines.specs.declared.tree.TreeItem.{TreeItem};
+ghost use Rattle.tree_lines.specs.Written.{Written, written_lines, is_letter, is_digit, is_name_char, is_name, is_text, IsSpelled};
+ghost use Rattle.tree_lines.specs.Given.{IsDocument, items_of, given_of};
+ghost use Rattle.tree_lines.specs.Tokens.{token_of, with_item, joined_items, without_line, IsNamed};
+ghost use Rattle.tree_lines.specs.Kind.{IsKind};
+ghost use Rattle.tree_lines.specs.Reading.{Reading, Closes, IsBuilt, nodes_in, IsShort, AreWithin, shown, text_item};
+
+use crate::{Line, Tree, TreeItem};
+use serna_kinds::{Chars, Items, NameTable, NoMemory};
+use std::alloc::Global;
+use std::marker::Model;
+use std::mem;
+use std::str;
+
+// The limits of a section: elements in one another, nodes, and the bytes of a text.
+const MAX_DEPTH: usize = 120;
+const MAX_NODES: usize = 1_000_000;
+const MAX_TEXT_BYTES: usize = 16_384;
+
+/// Why lines were not read: they are no document of the built form, or memory ran out.
+#[derive(Clone, Copy, Debug, PartialEq, Eq)]
+pub enum LineFault {
+    NotBuilt,
+    NoMemory,
+}
+
+impl From<NoMemory> for LineFault {
+    ghost use Rattle.tree_lines.specs.declared.read.LineFault.TheVariants.{NoMemory};
+
+    ghost from_gives = { λ _ e. e ≡ NoMemory };
+
+    fn from(_e: NoMemory) -> LineFault {
+        LineFault::NoMemory
+    }
+}
+
+// A line by its first byte, with the bytes after it.
+enum LineKind<'a> {
+    Begin(&'a [u8]),
+    Text(&'a [u8]),
+    Finish(&'a [u8]),
+    Other,
+}
+
+fn kind_of(bytes: &[u8]) -> LineKind<'_>
+    ensures { IsKind result bytes.now }
+{
+    let Some((first, rest)) = bytes.split_first() else {
+        return LineKind::Other;
+    };
+    match *first {
+        b'(' => LineKind::Begin(rest),
+        b'-' => LineKind::Text(rest),
+        b')' => LineKind::Finish(rest),
+        _ => LineKind::Other,
+    }
+}
+
+fn is_letter(c: u8) -> bool
+    ensures { result ≡ is_letter c }
+{
+    matches!(c, b'A'..=b'Z' | b'a'..=b'z' | b'_')
+}
+
+fn is_name_char(c: u8) -> bool
+    ensures { result ≡ is_name_char c }
+{
+    is_letter(c) || matches!(c, b'0'..=b'9' | b'-' | b'.')
+}
+
+fn are_name_chars(bytes: &[u8]) -> bool
+    ensures { result ≡ list_all is_name_char bytes.now }
+{
+    bytes.iter().all(|c| is_name_char(*c))
+}
+
+// Whether the bytes are a name (after Namespaces in XML 1.0, NCName, in ASCII).
+fn is_name(bytes: &[u8]) -> bool
+    ensures { result ≡ is_name bytes.now }
+{
+    match bytes.split_first() {
+        Some((first, rest)) => is_letter(*first) && are_name_chars(rest),
+        None => false,
+    }
+}
+
+// Whether the bytes are printable ASCII without the backslash.
+fn is_text(bytes: &[u8]) -> bool
+    ensures { result ≡ is_text bytes.now }
+{
+    bytes
+        .iter()
+        .all(|c| matches!(*c, b' '..=b'~') && *c != b'\\')
+}
+
+fn as_ascii(bytes: &[u8]) -> &str
+    requires { IsAscii bytes.now }
+    ensures { result.now ≡ bytes.now }
+{
+    match str::from_utf8(bytes) {
+        Ok(text) => text,
+        Err(_) => unreachable!(),
+    }
+}
+
+// What is read so far, between two lines: the names of the open elements, the outermost first, the items,
+// the text that the next line may add to, and how many of the items are nodes.
+#[derive(Drop)]
+struct Reader<'a> {
+    open: Items<&'a [u8]>,
+    items: Items<TreeItem>,
+    text: String,
+    nodes: usize,
+}
+
+impl<'a> Model for Reader<'a> {
+    ghost use Rattle.std.specs.Prelude.{length, map, reverse};
+    ghost use Rattle.std.specs.Str.{chars};
+    ghost use Rattle.std.specs.String.{string_bytes, string_len};
+    ghost use Rattle.tree_lines.specs.Reading.{Reading, IsSound};
+
+    ghost Value = { Reading };
+
+    ghost view = { λ r. record { names = reverse (map (λ n. n.now) r.open); items = r.items; text = chars (string_bytes r.text) } };
+
+    ghost invariant = { λ r. IsSound (length r.open) r.items r.nodes (string_len r.text) };
+}
+
+impl<'a> Reader<'a> {
+    fn new(alloc: Global) -> Reader<'a>
+        ensures { result ≡ record { names = []; items = []; text = [] } }
+    {
+        Reader {
+            open: Items::new(alloc),
+            items: Items::new(alloc),
+            text: String::new(alloc),
+            nodes: 0,
+        }
+    }
+
+    // Adds a node, unless there are as many as a section may have.
+    fn add_node(&mut self, item: TreeItem) -> Result<(), LineFault>
+        requires node { nodes_in (item ∷ []) ≡ 1 }
+        requires short { IsShort item }
+        ensures ok { OnOk result (self.new ≡ record self.old { items = self.old.items ++ item ∷ [] }) }
+        ensures full { result ≡ Err LineFault.NotBuilt → 1000000 ≤ nodes_in self.old.items }
+    {
+        if self.nodes == MAX_NODES {
+            return Err(LineFault::NotBuilt);
+        }
+        self.items.push(item)?;
+        self.nodes += 1;
+        Ok(())
+    }
+
+    // Ends the text that was waiting, so that what comes next stands behind it.
+    fn end_text(&mut self, alloc: Global) -> Result<(), LineFault>
+        ensures ok { OnOk result (self.new ≡ record self.old { items = self.old.items ++ text_item self.old.text; text = [] }) }
+        ensures full { result ≡ Err LineFault.NotBuilt → 1000000 < nodes_in (self.old.items ++ text_item self.old.text) }
+    {
+        if self.text.is_empty() {
+            return Ok(());
+        }
+        let text = Chars::from_string(mem::replace(&mut self.text, String::new(alloc)));
+        self.add_node(TreeItem::Text(text))?;
+        Ok(())
+    }
+
+    // Reads a line `(NAME`.
+    fn begin(
+        &mut self,
+        alloc: Global,
+        name: &'a [u8],
+        number: u32,
+        names: &mut NameTable,
+    ) -> Result<(), LineFault>
+        ensures opens { OnOk result (self.new.names ≡ name.now ∷ self.old.names) }
+        ensures spelled { OnOk result (IsTrue (is_name name.now)) }
+        ensures shallow { OnOk result (length self.new.names ≤ 120) }
+        ensures items { OnOk result ((table : List NameParts) → Grows names.new table → (rest : List TreeItem) → shown self.new rest ≡ shown self.old (TreeItem.Begin (id_of table (plain_name name.now)) [] number ∷ rest)) }
+        ensures named { OnOk result ((table : List NameParts) → Grows names.new table → AllByRecursion (IsNamed table) self.old.items → AllByRecursion (IsNamed table) self.new.items) }
+        ensures refused { result ≡ Err LineFault.NotBuilt → IsTrue (is_name name.now) → length self.old.names + 1 ≤ 120 → (id : NameId) (rest : List TreeItem) → AreWithin (shown self.old (TreeItem.Begin id [] number ∷ rest)) → ⊥ }
+        ensures grows { Grows names.old names.new }
+    {
+        if self.open.len() == MAX_DEPTH || !is_name(name) {
+            return Err(LineFault::NotBuilt);
+        }
+        self.end_text(alloc)?;
+        let id = names.intern(alloc, "", as_ascii(name), "")?;
+        self.add_node(TreeItem::Begin(id, Items::new(alloc), number))?;
+        self.open.push(name)?;
+        Ok(())
+    }
+
+    // Reads a line `-TEXT`.
+    fn text(&mut self, text: &[u8]) -> Result<(), LineFault>
+        ensures same { OnOk result (self.new.names ≡ self.old.names) }
+        ensures spelled { OnOk result (IsTrue (is_text text.now)) }
+        ensures items { OnOk result ((rest : List TreeItem) → shown self.new rest ≡ shown self.old (with_item (TreeItem.Text (chars text.now)) rest)) }
+        ensures named { OnOk result (self.new.items ≡ self.old.items) }
+        ensures refused { result ≡ Err LineFault.NotBuilt → IsTrue (is_text text.now) → (rest : List TreeItem) → AreWithin (shown self.old (with_item (TreeItem.Text (chars text.now)) rest)) → ⊥ }
+    {
+        if text.len() > MAX_TEXT_BYTES - self.text.len() || !is_text(text) {
+            return Err(LineFault::NotBuilt);
+        }
+        self.text.push_str(as_ascii(text))?;
+        Ok(())
+    }
+
+    // Reads a line `)NAME`.
+    fn finish(&mut self, alloc: Global, name: &[u8]) -> Result<(), LineFault>
+        ensures closes { OnOk result (self.old.names ≡ name.now ∷ self.new.names) }
+        ensures shallow { OnOk result (length self.old.names ≤ 120) }
+        ensures items { OnOk result ((rest : List TreeItem) → shown self.new rest ≡ shown self.old (TreeItem.Finish ∷ rest)) }
+        ensures named { OnOk result ((table : List NameParts) → AllByRecursion (IsNamed table) self.old.items → AllByRecursion (IsNamed table) self.new.items) }
+        ensures refused { result ≡ Err LineFault.NotBuilt → (outer : List (List ℕ)) → self.old.names ≡ name.now ∷ outer → (rest : List TreeItem) → AreWithin (shown self.old (TreeItem.Finish ∷ rest)) → ⊥ }
+    {
+        let Some(innermost) = self.open.pop() else {
+            return Err(LineFault::NotBuilt);
+        };
+        if innermost != name {
+            return Err(LineFault::NotBuilt);
+        }
+        self.end_text(alloc)?;
+        self.items.push(TreeItem::Finish)?;
+        Ok(())
+    }
+}
