@@ -117,3 +117,57 @@ HasFirst-from_built line rest h = first_at h.document h.name h.content line rest
 
 pub no_lines : IsBuilt [] → ⊥
 no_lines h = absurd (cc (rw h.outermost at h.same))
+
+-- the same steps, where some element is open
+pub begun_closes : (old new : List (List ℕ)) (bytes name : List ℕ) (rest : List (List ℕ)) → (old ≡ [] → ⊥) → bytes ≡ 40 ∷ name → new ≡ name ∷ old → IsTrue (is_name name) → length new ≤ 120 → Closes new rest → Closes old (bytes ∷ rest)
+begun_closes [] new bytes name rest some e n good room h = absurd (some refl)
+begun_closes (inner ∷ outer) new bytes name rest some e n good room h =
+    rw e (Closes-from_opened name inner outer rest good (rw n at h))
+
+pub begun_left : (old new : List (List ℕ)) (bytes name : List ℕ) (rest : List (List ℕ)) → (old ≡ [] → ⊥) → bytes ≡ 40 ∷ name → new ≡ name ∷ old → Closes old (bytes ∷ rest) → Closes new rest
+begun_left [] new bytes name rest some e n h = absurd (some refl)
+begun_left (inner ∷ outer) new bytes name rest some e n h =
+    rw n (opened name inner outer rest (rw e at h)).closes
+
+pub begun_good : (old : List (List ℕ)) (bytes name : List ℕ) (rest : List (List ℕ)) → (old ≡ [] → ⊥) → bytes ≡ 40 ∷ name → Closes old (bytes ∷ rest) → IsTrue (is_name name) × (length old + 1 ≤ 120)
+begun_good [] bytes name rest some e h = absurd (some refl)
+begun_good (inner ∷ outer) bytes name rest some e h =
+    let o = opened name inner outer rest (rw e at h) in
+    (o.good, omega (arith, o.room))
+
+pub texted_closes : (old new : List (List ℕ)) (bytes t : List ℕ) (rest : List (List ℕ)) → (old ≡ [] → ⊥) → bytes ≡ 45 ∷ t → new ≡ old → IsTrue (is_text t) → Closes new rest → Closes old (bytes ∷ rest)
+texted_closes [] new bytes t rest some e n good h = absurd (some refl)
+texted_closes (inner ∷ outer) new bytes t rest some e n good h = rw e (Closes-from_text t inner outer rest good (rw n at h))
+
+pub texted_left : (old new : List (List ℕ)) (bytes t : List ℕ) (rest : List (List ℕ)) → (old ≡ [] → ⊥) → bytes ≡ 45 ∷ t → new ≡ old → Closes old (bytes ∷ rest) → IsTrue (is_text t) × Closes new rest
+texted_left [] new bytes t rest some e n h = absurd (some refl)
+texted_left (inner ∷ outer) new bytes t rest some e n h =
+    let both = texted t inner outer rest (rw e at h) in
+    (both.0, rw n both.1)
+
+pub finished_closes : (old new : List (List ℕ)) (bytes name : List ℕ) (rest : List (List ℕ)) → bytes ≡ 41 ∷ name → old ≡ name ∷ new → length old ≤ 120 → Closes new rest → Closes old (bytes ∷ rest)
+finished_closes old new bytes name rest e n room h = rw (n, e) (Closes-from_closed name new rest (rw n at room) h)
+
+pub finished_left : (old new : List (List ℕ)) (bytes name : List ℕ) (rest : List (List ℕ)) → bytes ≡ 41 ∷ name → old ≡ name ∷ new → Closes old (bytes ∷ rest) → Closes new rest
+finished_left old new bytes name rest e n h = (closed name name new rest (rw (n, e) at h)).1
+
+pub record Ends (name : List ℕ) (names : List (List ℕ)) : Type 0 where
+  pub outer : List (List ℕ)
+  pub same : names ≡ name ∷ outer
+
+pub finished_good : (old : List (List ℕ)) (bytes name : List ℕ) (rest : List (List ℕ)) → (old ≡ [] → ⊥) → bytes ≡ 41 ∷ name → Closes old (bytes ∷ rest) → Ends name old
+finished_good [] bytes name rest some e h = absurd (some refl)
+finished_good (inner ∷ outer) bytes name rest some e h =
+    let c = closed name inner outer rest (rw e at h) in
+    record { outer = outer; same = ap (λ (x : List ℕ). x ∷ outer) (sym c.0) }
+
+pub other_bad : (old : List (List ℕ)) (bytes : List ℕ) (rest : List (List ℕ)) → (old ≡ [] → ⊥) → IsOther bytes → Closes old (bytes ∷ rest) → ⊥
+other_bad [] bytes rest some o h = some refl
+other_bad (inner ∷ outer) bytes rest some o h = no_other bytes inner outer rest o h
+
+pub closed_bad : (old : List (List ℕ)) (bytes : List ℕ) (rest : List (List ℕ)) → old ≡ [] → Closes old (bytes ∷ rest) → ⊥
+closed_bad old bytes rest e h = let f : bytes ∷ rest ≡ [] = rw e at h in absurd (cc)
+
+pub open_bad : (names : List (List ℕ)) → (names ≡ [] → ⊥) → Closes names [] → ⊥
+open_bad [] some h = some refl
+open_bad (inner ∷ outer) some h = no_end inner outer h

@@ -1,10 +1,13 @@
 -- One step of a reader, over plain values.
-use Rattle.std.proofs.Common.{◌≡◌, ℕ, ◌+◌, ◌≤◌, ◌<◌, List, [], ◌∷◌, ◌++◌, suc, length, map, refl, sym, ap, ◌∙◌, append_assoc, arith}
-use Rattle.std.specs.Prelude.{encode_utf8_all, slice_get, Some, zero}
+use Rattle.std.proofs.Common.{◌≡◌, ℕ, ◌+◌, ◌≤◌, ◌<◌, List, [], ◌∷◌, ◌++◌, suc, length, map, refl, sym, ap, ◌∙◌, append_assoc, arith, Result, Err}
+use Rattle.std.specs.Prelude.{encode_utf8_all, slice_get, Some, zero, reverse}
 use Rattle.std.specs.List.{AllByRecursion}
 use Rattle.std.specs.Str.{chars, IsAscii, IsUtf8}
-use Rattle.std.proofs.lemmas.List.{append-nil, length-append}
+use Rattle.std.proofs.lemmas.List.{append-nil, length-append, map_push, reverse-append}
 use Rattle.std.proofs.lemmas.Str.{chars-IsAscii, encodes-append, encodes-chars, encodes-IsAscii, chars-append, chars-nil}
+use Rattle.std.proofs.lemmas.Result.{err_from_is_err_and}
+use Rattle.std.specs.Result.{IsErrAnd}
+use Rattle.tree_lines.specs.declared.read.LineFault.{LineFault}
 use Rattle.tree_lines.specs.declared.tree.TreeItem.{TreeItem}
 use Rattle.tree_lines.specs.declared.tree.TreeItem.TheVariants as item
 use Rattle.serna_kinds.specs.declared.cells.NameId.{NameId}
@@ -93,3 +96,11 @@ slice_get-front (y ∷ xs) ys (suc k) x h = slice_get-front xs ys k x h
 -- a name that was given stays
 pub IsNamed-from_stored : (names table : List NameParts) (id : NameId) (attributes : List AttrPair) (line : ℕ) (x : NameParts) → slice_get names id.0 ≡ Some x → Grows names table → IsNamed table (item.Begin id attributes line)
 IsNamed-from_stored names table id attributes line x h g = rw (g.1, slice_get-front names g.0 id.0 x h) refl
+
+-- the fault that a `?` passes on is the callee's
+pub passed_on : {T U : Type 0} (r : Result T LineFault) (s : Result U LineFault) (f e : LineFault) → s ≡ Err f → IsErrAnd r (λ y. y ≡ f) → r ≡ Err e → s ≡ Err e
+passed_on r s f e was gives h = let p = err_from_is_err_and r gives in cc
+
+-- the names of the open elements, after one more
+pub names_pushed : {X : Type 0} (f : X → List ℕ) (xs : List X) (x : X) → reverse (map f (xs ++ x ∷ [])) ≡ f x ∷ reverse (map f xs)
+names_pushed f xs x = ap reverse (map_push f xs x) ∙ reverse-append (map f xs) (f x ∷ [])

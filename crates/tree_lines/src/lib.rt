@@ -4,5 +4,5 @@
 mod read;
 mod tree;
 
-pub use read::LineFault;
+pub use read::{LineFault, read_tree};
 pub use tree::{Line, Tree, TreeItem};

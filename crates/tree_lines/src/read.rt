@@ -230,4 +230,143 @@ impl<'a> Reader<'a> {
         self.items.push(TreeItem::Finish)?;
         Ok(())
     }
+
+    // Reads the first line, which begins the outermost element.
+    fn first_line(
+        &mut self,
+        alloc: Global,
+        line: &'a Line,
+        names: &mut NameTable,
+    ) -> Result<(), LineFault>
+        requires { self.old ≡ record { names = []; items = []; text = [] } }
+        ensures closes { OnOk result ((rest : List (List ℕ)) → Closes self.new.names rest → IsBuilt (line.now.bytes ∷ rest)) }
+        ensures left { OnOk result ((rest : List (List ℕ)) → IsBuilt (line.now.bytes ∷ rest) → Closes self.new.names rest) }
+        ensures items { OnOk result ((table : List NameParts) → Grows names.new table → (rest : List TreeItem) → shown self.new rest ≡ with_item (token_of table line.now) rest) }
+        ensures named { OnOk result ((table : List NameParts) → Grows names.new table → AllByRecursion (IsNamed table) self.new.items) }
+        ensures refused { result ≡ Err LineFault.NotBuilt → (rest : List (List ℕ)) → IsBuilt (line.now.bytes ∷ rest) → (table : List NameParts) (items : List TreeItem) → AreWithin (with_item (token_of table line.now) items) → ⊥ }
+        ensures grows { Grows names.old names.new }
+    {
+        match kind_of(line.bytes.as_slice()) {
+            LineKind::Begin(name) => {
+                self.begin(alloc, name, line.number, names)?;
+                Ok(())
+            }
+            LineKind::Text(_) => Err(LineFault::NotBuilt),
+            LineKind::Finish(_) => Err(LineFault::NotBuilt),
+            LineKind::Other => Err(LineFault::NotBuilt),
+        }
+    }
+
+    // Reads a line after the first.
+    fn next_line(
+        &mut self,
+        alloc: Global,
+        line: &'a Line,
+        names: &mut NameTable,
+    ) -> Result<(), LineFault>
+        ensures closes { OnOk result ((rest : List (List ℕ)) → Closes self.new.names rest → Closes self.old.names (line.now.bytes ∷ rest)) }
+        ensures left { OnOk result ((rest : List (List ℕ)) → Closes self.old.names (line.now.bytes ∷ rest) → Closes self.new.names rest) }
+        ensures items { OnOk result ((table : List NameParts) → Grows names.new table → (rest : List TreeItem) → shown self.new rest ≡ shown self.old (with_item (token_of table line.now) rest)) }
+        ensures named { OnOk result ((table : List NameParts) → Grows names.new table → AllByRecursion (IsNamed table) self.old.items → AllByRecursion (IsNamed table) self.new.items) }
+        ensures refused { result ≡ Err LineFault.NotBuilt → (rest : List (List ℕ)) → Closes self.old.names (line.now.bytes ∷ rest) → (table : List NameParts) (items : List TreeItem) → AreWithin (shown self.old (with_item (token_of table line.now) items)) → ⊥ }
+        ensures grows { Grows names.old names.new }
+    {
+        if self.open.is_empty() {
+            return Err(LineFault::NotBuilt);
+        }
+        match kind_of(line.bytes.as_slice()) {
+            LineKind::Begin(name) => {
+                self.begin(alloc, name, line.number, names)?;
+                Ok(())
+            }
+            LineKind::Text(text) => {
+                self.text(text)?;
+                Ok(())
+            }
+            LineKind::Finish(name) => {
+                self.finish(alloc, name)?;
+                Ok(())
+            }
+            LineKind::Other => Err(LineFault::NotBuilt),
+        }
+    }
+
+    // Ends the reading, where no element is open.
+    fn end(&mut self, alloc: Global) -> Result<(), LineFault>
+        ensures closed { OnOk result (self.old.names ≡ []) }
+        ensures items { OnOk result (self.new.items ≡ shown self.old []) }
+        ensures named { OnOk result ((table : List NameParts) → AllByRecursion (IsNamed table) self.old.items → AllByRecursion (IsNamed table) self.new.items) }
+        ensures refused { result ≡ Err LineFault.NotBuilt → self.old.names ≡ [] → AreWithin (shown self.old []) → ⊥ }
+    {
+        if !self.open.is_empty() {
+            return Err(LineFault::NotBuilt);
+        }
+        self.end_text(alloc)?;
+        Ok(())
+    }
+
+    fn into_items(self) -> Items<TreeItem>
+        ensures items { result ≡ self.entry.items }
+        ensures within { AreWithin result }
+    {
+        let Reader { items, .. } = self;
+        items
+    }
+}
+
+// Reads the items of a document.
+fn read_items(
+    alloc: Global,
+    lines: &[Line],
+    names: &mut NameTable,
+) -> Result<Items<TreeItem>, LineFault>
+    ensures built { OnOk result (IsBuilt (map (λ line. line.bytes) lines.now)) }
+    ensures items { IfOk result (λ items. (table : List NameParts) → Grows names.new table → items ≡ joined_items (map (token_of table) lines.now)) }
+    ensures within { IfOk result (λ items. AreWithin items) }
+    ensures named { IfOk result (λ items. (table : List NameParts) → Grows names.new table → AllByRecursion (IsNamed table) items) }
+    ensures refused { result ≡ Err LineFault.NotBuilt → IsBuilt (map (λ line. line.bytes) lines.now) → (table : List NameParts) → Grows names.new table → AreWithin (joined_items (map (token_of table) lines.now)) → ⊥ }
+    ensures grows { Grows names.old names.new }
+{
+    let Some((first, rest)) = lines.split_first() else {
+        return Err(LineFault::NotBuilt);
+    };
+    let mut reader = Reader::new(alloc);
+    reader.first_line(alloc, first, names)?;
+    for line in rest {
+        reader.next_line(alloc, line, names)?;
+    }
+    reader.end(alloc)?;
+    Ok(reader.into_items())
+}
+
+/// Reads a document of the built form from its lines, interning the names of its elements.
+///
+/// `Err(NotBuilt)` comes where the lines are no document of the built form, or pass a limit of a section:
+/// elements 120 deep, 1,000,000 nodes, 16,384 bytes a text. `Err(NoMemory)` comes where memory runs out.
+/// After an error the table may have got names of these lines, and has lost none.
+pub fn read_tree(
+    alloc: Global,
+    lines: &[Line],
+    names: &mut NameTable,
+) -> Result<Tree, LineFault>
+    // What is read is a document, and its lines are spelled so.
+    ensures spelled { OnOk result ((document : Written) × IsDocument document × (map (λ line. line.bytes) lines.now ≡ written_lines document)) }
+
+    // The items are those that the lines say one by one, with neighbouring texts joined, in this table and in each that grows from it.
+    ensures items { IfOk result (λ tree. (table : List NameParts) → Grows names.new table → tree ≡ joined_items (map (token_of table) lines.now)) }
+
+    // They are the items of the document's tree.
+    ensures given { IfOk result (λ tree. (table : List NameParts) → Grows names.new table → (document : Written) → map (λ line. line.bytes) lines.now ≡ written_lines document → IsSpelled document → map without_line tree ≡ items_of (given_of table document)) }
+
+    // Each element's name is one of the table's.
+    ensures named { IfOk result (λ tree. (table : List NameParts) → Grows names.new table → AllByRecursion (IsNamed table) tree) }
+
+    // Nothing that is a document is refused, unless memory runs out.
+    ensures refused { result ≡ Err LineFault.NotBuilt → (document : Written) → IsDocument document → map (λ line. line.bytes) lines.now ≡ written_lines document → ⊥ }
+
+    // The table grows at most.
+    ensures grows { Grows names.old names.new }
+{
+    let items = read_items(alloc, lines, names)?;
+    Ok(Tree::from_items(items))
 }

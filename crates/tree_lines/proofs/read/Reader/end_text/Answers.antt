@@ -5,13 +5,12 @@ use Rattle.std.specs.String.{string_bytes, string_len}
 use Rattle.std.proofs.lemmas.Bool.{eqb-true, eqb-false}
 use Rattle.std.proofs.lemmas.List.{nil_from_length}
 use Rattle.std.proofs.lemmas.Str.{IsUtf8-string_bytes, encodes-chars, chars-nil}
-use Rattle.std.proofs.lemmas.Result.{err_from_is_err_and}
 use Rattle.tree_lines.specs.declared.read.LineFault.TheVariants as fault
 use Rattle.tree_lines.specs.declared.tree.TreeItem.{TreeItem}
 use Rattle.tree_lines.specs.declared.tree.TreeItem.TheVariants as item
 use Rattle.tree_lines.specs.Reading.{Reading, nodes_in, text_item}
 use Rattle.tree_lines.proofs.Limits.{nodes_in-append}
-use Rattle.tree_lines.proofs.Steps.{text_ended, text_item-waiting, text_ended_as, full_behind}
+use Rattle.tree_lines.proofs.Steps.{text_ended, text_item-waiting, text_ended_as, full_behind, passed_on}
 use Rattle.tree_lines.proofs.read.Reader.end_text.Goals as goal
 
 pub returns-then-is_empty-clause-ok : goal.returns-then-is_empty-clause-ok
@@ -31,8 +30,7 @@ add_node-requires-clause-short c =
 
 pub returns-in_err-add_node-clause-full : goal.returns-in_err-add_node-clause-full
 returns-in_err-add_node-clause-full c = λ e.
-    let p = err_from_is_err_and c.from_residual.result c.from_residual.ensures.1 in
-    let q : c.add_node.result ≡ Err fault.NotBuilt = cc in
+    let q = passed_on c.from_residual.result c.add_node.result _ fault.NotBuilt c.in_err-add_node.was c.from_residual.ensures.1 e in
     let text = c.self.inside.text in
     let waits : string_len text ≡ 0 → ⊥ = eqb-false (string_len text) 0 (sym c.is_empty.ensures ∙ c.if-is_empty.false) in
     let tie = text.bytes.ok.0 in
