@@ -171,3 +171,12 @@ closed_bad old bytes rest e h = let f : bytes ∷ rest ≡ [] = rw e at h in abs
 pub open_bad : (names : List (List ℕ)) → (names ≡ [] → ⊥) → Closes names [] → ⊥
 open_bad [] some h = some refl
 open_bad (inner ∷ outer) some h = no_end inner outer h
+
+pub first_closes : (new : List (List ℕ)) (bytes name : List ℕ) (rest : List (List ℕ)) → bytes ≡ 40 ∷ name → new ≡ name ∷ [] → IsTrue (is_name name) → Closes new rest → IsBuilt (bytes ∷ rest)
+first_closes new bytes name rest e n good h = rw e (IsBuilt-from_first name rest good (rw n at h))
+
+pub first_good : (bytes name : List ℕ) (rest : List (List ℕ)) → bytes ≡ 40 ∷ name → IsBuilt (bytes ∷ rest) → IsTrue (is_name name)
+first_good bytes name rest e b =
+    let f = HasFirst-from_built bytes rest b in
+    let same : f.name ≡ name = cc in
+    rw same at f.good

@@ -1,19 +1,21 @@
 -- One step of a reader, over plain values.
-use Rattle.std.proofs.Common.{◌≡◌, ℕ, ◌+◌, ◌≤◌, ◌<◌, List, [], ◌∷◌, ◌++◌, suc, length, map, refl, sym, ap, ◌∙◌, append_assoc, arith, Result, Err}
-use Rattle.std.specs.Prelude.{encode_utf8_all, slice_get, Some, zero, reverse}
+use Rattle.std.proofs.Common.{◌≡◌, ℕ, ◌+◌, ◌≤◌, ◌<◌, List, [], ◌∷◌, ◌++◌, suc, length, map, refl, sym, ap, ◌∙◌, append_assoc, subst, arith, Result, Err, Bool, true, false}
+use Rattle.std.specs.Prelude.{encode_utf8_all, slice_get, Some, zero, reverse, ◌↔◌}
 use Rattle.std.specs.List.{AllByRecursion}
 use Rattle.std.specs.Str.{chars, IsAscii, IsUtf8}
-use Rattle.std.proofs.lemmas.List.{append-nil, length-append, map_push, reverse-append}
+use Rattle.std.proofs.lemmas.List.{append-nil, length-append, length-map, length-reverse, nil_from_length, map_push, reverse-append}
+use Rattle.std.proofs.lemmas.Bool.{false≢true}
 use Rattle.std.proofs.lemmas.Str.{chars-IsAscii, encodes-append, encodes-chars, encodes-IsAscii, chars-append, chars-nil}
 use Rattle.std.proofs.lemmas.Result.{err_from_is_err_and}
 use Rattle.std.specs.Result.{IsErrAnd}
 use Rattle.tree_lines.specs.declared.read.LineFault.{LineFault}
+use Rattle.tree_lines.specs.declared.tree.Line.{Line}
 use Rattle.tree_lines.specs.declared.tree.TreeItem.{TreeItem}
 use Rattle.tree_lines.specs.declared.tree.TreeItem.TheVariants as item
 use Rattle.serna_kinds.specs.declared.cells.NameId.{NameId}
 use Rattle.serna_kinds.specs.declared.cells.AttrPair.{AttrPair}
-use Rattle.serna_kinds.specs.Names.{NameParts, Grows}
-use Rattle.tree_lines.specs.Tokens.{with_item, IsNamed}
+use Rattle.serna_kinds.specs.Names.{NameParts, Grows, plain_name, id_of}
+use Rattle.tree_lines.specs.Tokens.{token_in, token_of, with_item, IsNamed}
 use Rattle.tree_lines.specs.Reading.{Reading, IsShort, AreWithin, nodes_in, shown, text_item, IsTag}
 use Rattle.tree_lines.proofs.Joining.{with_item-text, with_item-tag, with_item-nil}
 use Rattle.tree_lines.proofs.Limits.{nodes_in-append, are_short-back, long_text}
@@ -104,3 +106,30 @@ passed_on r s f e was gives h = let p = err_from_is_err_and r gives in cc
 -- the names of the open elements, after one more
 pub names_pushed : {X : Type 0} (f : X → List ℕ) (xs : List X) (x : X) → reverse (map f (xs ++ x ∷ [])) ≡ f x ∷ reverse (map f xs)
 names_pushed f xs x = ap reverse (map_push f xs x) ∙ reverse-append (map f xs) (f x ∷ [])
+
+names_none : {X : Type 0} (f : X → List ℕ) (xs : List X) → reverse (map f xs) ≡ [] → xs ≡ []
+names_none f xs e =
+    let none : length xs ≡ 0 = sym (length-map xs f) ∙ sym (length-reverse (map f xs)) ∙ ap length e in
+    nil_from_length xs none
+
+pub open_some : {X : Type 0} (f : X → List ℕ) (r : Reading) (xs : List X) (b : Bool) → reverse (map f xs) ≡ r.names → ((b ≡ true) ↔ (xs ≡ [])) → b ≡ false → r.names ≡ [] → ⊥
+open_some f r xs b e h off none = false≢true (sym off ∙ h.1 (names_none f xs (e ∙ none)))
+
+-- the first line's items
+pub first_items : (r : Reading) (table : List NameParts) (line : Line) (name : List ℕ) (rest : List TreeItem) → r ≡ record { names = []; items = []; text = [] } → line.bytes ≡ 40 ∷ name → shown r (item.Begin (id_of table (plain_name name)) [] line.number ∷ rest) ≡ with_item (token_of table line) rest
+first_items r table line name rest none e =
+    ap (λ (x : Reading). shown x (item.Begin (id_of table (plain_name name)) [] line.number ∷ rest)) none ∙ sym (ap (λ (b : List ℕ). with_item (token_in table line.number b) rest) e)
+
+-- a line's items by its kind
+pub line_items : (r : Reading) (table : List NameParts) (line : Line) (bytes : List ℕ) (rest : List TreeItem) → line.bytes ≡ bytes → AreWithin (shown r (with_item (token_of table line) rest)) → AreWithin (shown r (with_item (token_in table line.number bytes) rest))
+line_items r table line bytes rest e h = subst (λ (b : List ℕ). AreWithin (shown r (with_item (token_in table line.number b) rest))) e h
+
+pub AreWithin-same : (xs ys : List TreeItem) → xs ≡ ys → AreWithin xs → AreWithin ys
+AreWithin-same xs ys e h = subst AreWithin e h
+
+-- a table that grows twice
+pub Grows-same : (a : List NameParts) → Grows a a
+Grows-same a = ([], sym (append-nil a))
+
+pub Grows-twice : (a b d : List NameParts) → Grows a b → Grows b d → Grows a d
+Grows-twice a b d g h = (g.0 ++ h.0, h.1 ∙ ap (λ (x : List NameParts). x ++ h.0) g.1 ∙ append_assoc a g.0 h.0)
