@@ -15,9 +15,14 @@ apart a b e f = false≢true (sym f ∙ eq-eqb a b e)
 -- a line `(NAME`
 pub Closes-from_opened : (name inner : List ℕ) (outer rest : List (List ℕ)) → IsTrue (is_name name) → Closes (name ∷ inner ∷ outer) rest → Closes (inner ∷ outer) ((40 ∷ name) ∷ rest)
 Closes-from_opened name inner outer rest good h =
-    record { content = element name h.content h.follows.content; rest = h.follows.rest;
+    record {
+      content = element name h.content h.follows.content;
+      rest = h.follows.rest;
       same = ap (λ (x : List (List ℕ)). (40 ∷ name) ∷ x) (h.same ∙ ap (λ (x : List (List ℕ)). written_lines h.content ++ ((41 ∷ name) ∷ x)) h.follows.same ∙ sym (append_assoc (written_lines h.content) ((41 ∷ name) ∷ written_lines h.follows.content) ((41 ∷ inner) ∷ h.follows.rest)));
-      spelled = (good, h.spelled, h.follows.spelled); shallow = omega (arith, h.shallow, h.follows.shallow); follows = h.follows.follows }
+      spelled = (good, h.spelled, h.follows.spelled);
+      shallow = omega (arith, h.shallow, h.follows.shallow);
+      follows = h.follows.follows;
+    }
 
 pub record HasOpened (name inner : List ℕ) (outer rest : List (List ℕ)) : Type 0 where
   pub good : IsTrue (is_name name)
@@ -31,9 +36,18 @@ opened_at (element n content after) name inner outer rest more e s d h =
     let same : n ≡ name = cc in
     let left : rest ≡ (written_lines content ++ ((41 ∷ n) ∷ written_lines after)) ++ ((41 ∷ inner) ∷ more) = cc in
     let split : rest ≡ written_lines content ++ ((41 ∷ name) ∷ (written_lines after ++ ((41 ∷ inner) ∷ more))) = rw (← same) (left ∙ append_assoc (written_lines content) ((41 ∷ n) ∷ written_lines after) ((41 ∷ inner) ∷ more)) in
-    record { good = rw (← same) s.0; room = omega arith;
-      closes = record { content = content; rest = written_lines after ++ ((41 ∷ inner) ∷ more); same = split; spelled = s.1; shallow = omega arith;
-        follows = record { content = after; rest = more; same = refl; spelled = s.2; shallow = omega arith; follows = h } } }
+    record {
+      good = rw (← same) s.0;
+      room = omega arith;
+      closes = record {
+        content = content;
+        rest = written_lines after ++ ((41 ∷ inner) ∷ more);
+        same = split;
+        spelled = s.1;
+        shallow = omega arith;
+        follows = record { content = after; rest = more; same = refl; spelled = s.2; shallow = omega arith; follows = h };
+      };
+    }
 
 pub opened : (name inner : List ℕ) (outer rest : List (List ℕ)) → Closes (inner ∷ outer) ((40 ∷ name) ∷ rest) → HasOpened name inner outer rest
 opened name inner outer rest h = opened_at h.content name inner outer rest h.rest h.same h.spelled h.shallow h.follows
@@ -93,9 +107,15 @@ no_end inner outer h = none_at h.content (41 ∷ inner) h.rest h.same
 pub IsBuilt-from_first : (name : List ℕ) (rest : List (List ℕ)) → IsTrue (is_name name) → Closes (name ∷ []) rest → IsBuilt ((40 ∷ name) ∷ rest)
 IsBuilt-from_first name rest good h =
     let after : h.rest ≡ [] = h.follows in
-    record { document = element name h.content end; name = name; content = h.content; outermost = refl;
-      spelled = (good, h.spelled, tt); shallow = omega (arith, h.shallow);
-      same = ap (λ (x : List (List ℕ)). (40 ∷ name) ∷ x) (h.same ∙ ap (λ (x : List (List ℕ)). written_lines h.content ++ ((41 ∷ name) ∷ x)) after) }
+    record {
+      document = element name h.content end;
+      name = name;
+      content = h.content;
+      outermost = refl;
+      spelled = (good, h.spelled, tt);
+      shallow = omega (arith, h.shallow);
+      same = ap (λ (x : List (List ℕ)). (40 ∷ name) ∷ x) (h.same ∙ ap (λ (x : List (List ℕ)). written_lines h.content ++ ((41 ∷ name) ∷ x)) after);
+    }
 
 pub record HasFirst (line : List ℕ) (rest : List (List ℕ)) : Type 0 where
   pub name : List ℕ
@@ -109,8 +129,12 @@ first_at (text t after) name content line rest o s d e = absurd (cc)
 first_at (element n inside after) name content line rest o s d e =
     let ends : after ≡ end = cc in
     let left : rest ≡ written_lines inside ++ ((41 ∷ n) ∷ written_lines after) = cc in
-    record { name = n; same = cc; good = s.0;
-      closes = record { content = inside; rest = written_lines after; same = left; spelled = s.1; shallow = omega arith; follows = ap written_lines ends } }
+    record {
+      name = n;
+      same = cc;
+      good = s.0;
+      closes = record { content = inside; rest = written_lines after; same = left; spelled = s.1; shallow = omega arith; follows = ap written_lines ends };
+    }
 
 pub HasFirst-from_built : (line : List ℕ) (rest : List (List ℕ)) → IsBuilt (line ∷ rest) → HasFirst line rest
 HasFirst-from_built line rest h = first_at h.document h.name h.content line rest h.outermost h.spelled h.shallow h.same

@@ -109,7 +109,7 @@ plain_items-written : (names : List NameParts) (w : Written) (more : List (List 
 plain_items-written names end more s h = refl
 plain_items-written names (text t w) more s h =
     ap (λ (x : List TreeItem). with_item (item.Text (chars t)) x) (plain_items-written names w more s.1 h) ∙ items_of-with_text names t (joined w) (plain_items names more) (IsAscii-from_text t s.0) h
-plain_items-written names (element n inside w) more s h = 
+plain_items-written names (element n inside w) more s h =
     let close : List (List ℕ) = (41 ∷ n) ∷ (written_lines w ++ more) in
     ap (λ (x : List (List ℕ)). item.Begin (id_of names (plain_name n)) [] 0 ∷ plain_items names x) (append_assoc (written_lines inside) ((41 ∷ n) ∷ written_lines w) more)
     ∙ ap (λ (x : List TreeItem). item.Begin (id_of names (plain_name n)) [] 0 ∷ x) (plain_items-written names inside close s.1 tt ∙ ap (λ (x : List TreeItem). items_of (given_of names inside) ++ (item.Finish ∷ x)) (plain_items-written names w more s.2 h) ∙ sym (append_assoc (items_of (given_of names inside)) (item.Finish ∷ items_of (given_of names w)) (plain_items names more)))

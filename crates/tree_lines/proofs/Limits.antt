@@ -143,30 +143,47 @@ AreWithin-from_document names lines w d e =
     let same = items_of-lines names lines w e d.spelled in
     let xs = joined_items (map (token_of names) lines) in
     let whole = d.whole names in
-    let nodes : nodes_in xs ≡ count_of (given_of names w) = sym (nodes_in-without_line xs) ∙ ap nodes_in same ∙ nodes_in-items_of (given_of names w) in
-    (omega (arith, whole.few),
-     are_short-numbered xs (rw same (are_short-from_texts (given_of names w) whole.texts)))
+    let nodes : nodes_in xs ≡ count_of (given_of names w) = sym (nodes_in-without_line xs) ∙ ap nodes_in same ∙ nodes_in-items_of (given_of names w) in (
+      omega (arith, whole.few),
+      are_short-numbered xs (rw same (are_short-from_texts (given_of names w) whole.texts)),
+    )
 
 pub IsBuilt-from_document : (lines : List (List ℕ)) (w : Written) → IsDocument w → lines ≡ written_lines w → IsBuilt lines
 IsBuilt-from_document lines w d e =
     let whole = d.whole [] in
-    record { document = w; name = d.name; content = d.content; outermost = d.outermost; spelled = d.spelled;
-      shallow = omega (arith, whole.shallow, depth_of-given_of [] w); same = e }
+    record {
+      document = w;
+      name = d.name;
+      content = d.content;
+      outermost = d.outermost;
+      spelled = d.spelled;
+      shallow = omega (arith, whole.shallow, depth_of-given_of [] w);
+      same = e;
+    }
 
 -- and what is within the limits is a document
 IsWhole-from_built : (names other : List NameParts) (items : List TreeItem) (w : Written) (n : List ℕ) (inside : Written) → w ≡ element n inside end → IsSpelled w → height_of w ≤ 120 → map without_line items ≡ items_of (given_of names w) → AreWithin items → IsWhole (given_of other w)
 IsWhole-from_built names other items w n inside o s d same h =
     let texts = AreTexts-from_joined (given_of names w) (IsJoined-given_of names w s) (rw same at (are_short-plain items h.1)) in
     let nodes : nodes_in items ≡ count_of (given_of names w) = sym (nodes_in-without_line items) ∙ ap nodes_in same ∙ nodes_in-items_of (given_of names w) in
-    record { name = id_of other (plain_name n); content = given_of other inside; outermost = ap (given_of other) o;
+    record {
+      name = id_of other (plain_name n);
+      content = given_of other inside;
+      outermost = ap (given_of other) o;
       texts = AreTexts-names names other (joined w) texts;
       few = omega (arith, h.0, count_of-names names other (joined w));
-      shallow = omega (arith, depth_of-given_of other w) }
+      shallow = omega (arith, depth_of-given_of other w);
+    }
 
 pub IsDocument-from_built : (names : List NameParts) (items : List TreeItem) (lines : List Line) (b : IsBuilt (map (λ (l : Line). l.bytes) lines)) → items ≡ joined_items (map (token_of names) lines) → AreWithin items → IsDocument b.document
 IsDocument-from_built names items lines b e h =
-    record { name = b.name; content = b.content; outermost = b.outermost; spelled = b.spelled;
-      whole = λ other. IsWhole-from_built names other items b.document b.name b.content b.outermost b.spelled b.shallow (ap (map without_line) e ∙ items_of-lines names lines b.document b.same b.spelled) h }
+    record {
+      name = b.name;
+      content = b.content;
+      outermost = b.outermost;
+      spelled = b.spelled;
+      whole = λ other. IsWhole-from_built names other items b.document b.name b.content b.outermost b.spelled b.shallow (ap (map without_line) e ∙ items_of-lines names lines b.document b.same b.spelled) h;
+    }
 
 pub IsTree-from_built : (names : List NameParts) (items : List TreeItem) (lines : List Line) → IsBuilt (map (λ (l : Line). l.bytes) lines) → items ≡ joined_items (map (token_of names) lines) → AreWithin items → IsTree items
 IsTree-from_built names items lines b e h =

@@ -63,7 +63,7 @@ too_long r s t rest h u a long w =
     let front : encode_utf8_all r.text ≡ s = ap encode_utf8_all h ∙ encodes-chars s u in
     let back : encode_utf8_all (chars t) ≡ t = ap encode_utf8_all (chars-IsAscii t a) ∙ encodes-IsAscii t a in
     let sum : length (encode_utf8_all (r.text ++ chars t)) ≡ length s + length t =
-        ap length (encodes-append r.text (chars t)) ∙ length-append (encode_utf8_all r.text) (encode_utf8_all (chars t)) ∙ cc in
+    ap length (encodes-append r.text (chars t)) ∙ length-append (encode_utf8_all r.text) (encode_utf8_all (chars t)) ∙ cc in
     omega arith
 
 -- a tag behind the waiting text

@@ -14,12 +14,13 @@ use crate::{Line, Tree, TreeItem};
 use serna_kinds::{Chars, Items, NameTable, NoMemory};
 use std::alloc::Global;
 use std::marker::Model;
-use std::mem;
-use std::str;
+use std::{mem, str};
 
 // The limits of a section: elements in one another, nodes, and the bytes of a text.
 const MAX_DEPTH: usize = 120;
+
 const MAX_NODES: usize = 1_000_000;
+
 const MAX_TEXT_BYTES: usize = 16_384;
 
 /// Why lines were not read: they are no document of the built form, or memory ran out.
@@ -344,11 +345,7 @@ fn read_items(
 /// `Err(NotBuilt)` comes where the lines are no document of the built form, or pass a limit of a section:
 /// elements 120 deep, 1,000,000 nodes, 16,384 bytes a text. `Err(NoMemory)` comes where memory runs out.
 /// After an error the table may have got names of these lines, and has lost none.
-pub fn read_tree(
-    alloc: Global,
-    lines: &[Line],
-    names: &mut NameTable,
-) -> Result<Tree, LineFault>
+pub fn read_tree(alloc: Global, lines: &[Line], names: &mut NameTable) -> Result<Tree, LineFault>
     // What is read is a document, and its lines are spelled so.
     ensures spelled { OnOk result ((document : Written) × IsDocument document × (map (λ line. line.bytes) lines.now ≡ written_lines document)) }
 
@@ -369,4 +366,99 @@ pub fn read_tree(
 {
     let items = read_items(alloc, lines, names)?;
     Ok(Tree::from_items(items))
+}
+
+#[cfg(test)]
+mod tests {
+    use super::*;
+
+    fn lines_of(alloc: Global, text: &str) -> Result<Vec<Line>, NoMemory> {
+        let mut lines = Vec::new(alloc);
+        let mut number = 7u32;
+        for line in text.split('\n') {
+            let bytes = Items::from_slice(alloc, line.as_bytes())?;
+            lines.push(Line { number, bytes })?;
+            number = number.saturating_add(1);
+        }
+        Ok(lines)
+    }
+
+    // What is read of the lines, numbered from 7: `(0:7` for an element by the number of its name and its line.
+    fn outcome(alloc: Global, text: &str) -> Result<String, NoMemory> {
+        let lines = lines_of(alloc, text)?;
+        let mut names = NameTable::new(alloc);
+        let mut out = String::new(alloc);
+        let tree = match read_tree(alloc, &lines, &mut names) {
+            Ok(tree) => tree,
+            Err(LineFault::NotBuilt) => return String::from_str(alloc, "not built"),
+            Err(LineFault::NoMemory) => return String::from_str(alloc, "no memory"),
+        };
+        for item in tree.items() {
+            match item {
+                TreeItem::Begin(name, _, number) => {
+                    let begin = format!(in alloc; "({}:{number} ", name.0)?;
+                    out.push_str(begin.as_str())?;
+                }
+                TreeItem::Text(text) => {
+                    out.push_str("-")?;
+                    out.push_str(text.as_text())?;
+                    out.push_str(" ")?;
+                }
+                TreeItem::Comment(_) => out.push_str("! ")?,
+                TreeItem::Finish => out.push_str(") ")?,
+            }
+        }
+        Ok(out)
+    }
+
+    // Elements in one another, `depth` deep.
+    fn nested(alloc: Global, depth: usize) -> Result<String, NoMemory> {
+        let mut text = String::new(alloc);
+        for _ in 0..depth {
+            text.push_str("(e\n")?;
+        }
+        for level in 0..depth {
+            text.push_str(if level == 0 { ")e" } else { "\n)e" })?;
+        }
+        Ok(text)
+    }
+
+    #[test]
+    fn reads_what_is_built(rt: HostRuntime) {
+        let rows = [
+            ("(doc\n)doc", "(0:7 ) "),
+            ("(doc\n-one\n-\n- two\n)doc", "(0:7 -one two ) "),
+            ("(doc\n-\n)doc", "(0:7 ) "),
+            (
+                "(a\n-x\n(b\n)b\n-y\n(a\n)a\n)a",
+                "(0:7 -x (1:9 ) -y (0:12 ) ) ",
+            ),
+            ("(_a-1.b\n-(x )x\n)_a-1.b", "(0:7 -(x )x ) "),
+            ("(a\n)b", "not built"),
+            ("(a\n(b\n)a\n)b", "not built"),
+            ("(a\n)a\n(a\n)a", "not built"),
+            ("(a\n)a\n-x", "not built"),
+            ("-x\n(a\n)a", "not built"),
+            ("(a", "not built"),
+            ("(1a\n)1a", "not built"),
+            ("(a:b\n)a:b", "not built"),
+            ("(\n)", "not built"),
+            ("(a\n-x\\n\n)a", "not built"),
+            ("(a\n\n)a", "not built"),
+            ("", "not built"),
+        ];
+        for (lines, want) in rows {
+            let got = outcome(rt.alloc(), lines).expect(&rt, "memory");
+            assert_eq!(rt; got.as_str(), want, "at {lines}");
+        }
+    }
+
+    #[test]
+    fn reads_elements_120_deep(rt: HostRuntime) {
+        for (depth, is_read) in [(120, true), (121, false)] {
+            let lines = nested(rt.alloc(), depth).expect(&rt, "memory");
+            let got = outcome(rt.alloc(), lines.as_str()).expect(&rt, "memory");
+            assert_eq!(rt; got.as_str() != "not built", is_read, "at {depth}");
+        }
+    }
 }

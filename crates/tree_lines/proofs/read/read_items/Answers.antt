@@ -19,7 +19,8 @@ loop-line-preserved c =
       closes = λ h. inv.closes (next_closes rest i line was.names c.next_line.new.self.names c.loop-line-test.true c.line-item.is ok.closes h);
       left = λ b. next_left rest i line was.names c.next_line.new.self.names c.loop-line-test.true c.line-item.is ok.left (inv.left b);
       items = λ table g. next_items rest i line table was c.next_line.new.self c.loop-line-test.true c.line-item.is (ok.items table g) ∙ inv.items table (Grows-twice c.loop-line.names c.next_line.new.names table ok.grows g);
-      named = λ table g. ok.named table g (inv.named table (Grows-twice c.loop-line.names c.next_line.new.names table ok.grows g)) }
+      named = λ table g. ok.named table g (inv.named table (Grows-twice c.loop-line.names c.next_line.new.names table ok.grows g));
+    }
 
 pub returns-in_err-end-clause-refused : goal.returns-in_err-end-clause-refused
 returns-in_err-end-clause-refused c = λ e built table g w.

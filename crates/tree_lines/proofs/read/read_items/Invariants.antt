@@ -13,5 +13,5 @@ invariant-loop-line l = record {
   closes : Closes l.reader.names (map (λ (x : Line). x.bytes) (drop l.line-index l.rest)) → IsBuilt (map (λ (x : Line). x.bytes) l.lines);
   left : IsBuilt (map (λ (x : Line). x.bytes) l.lines) → Closes l.reader.names (map (λ (x : Line). x.bytes) (drop l.line-index l.rest));
   items : (table : List NameParts) → Grows l.names table → shown l.reader (joined_items (map (token_of table) (drop l.line-index l.rest))) ≡ joined_items (map (token_of table) l.lines);
-  named : (table : List NameParts) → Grows l.names table → AllByRecursion (IsNamed table) l.reader.items
+  named : (table : List NameParts) → Grows l.names table → AllByRecursion (IsNamed table) l.reader.items;
 }

@@ -7,8 +7,10 @@ pub invariant_of-self-2 : goal.invariant_of-self-2
 invariant_of-self-2 c =
     let items = c.self.inside.items in
     let sound = c.self.invariant in
-    record { shallow = sound.shallow;
+    record {
+      shallow = sound.shallow;
       counted = rw c.in_ok-push.ensures.ok (omega (arith, nodes_in-append items (c.args.item ∷ [])));
       few = omega arith;
       short = rw c.in_ok-push.ensures.ok (are_short-append items (c.args.item ∷ []) sound.short (c.requires.short, tt));
-      waiting = sound.waiting }
+      waiting = sound.waiting;
+    }

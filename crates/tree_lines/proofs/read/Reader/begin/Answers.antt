@@ -28,5 +28,5 @@ returns-clause-named c = λ table g h.
     let all = are_named-append table (c.args.self.now.items ++ text_item c.args.self.now.text) (item.Begin c.in_ok-id.id c.new.result c.args.number ∷ []) before (begun, tt) in
     let ended : c.end_text.new.self.items ≡ c.args.self.now.items ++ text_item c.args.self.now.text = ap (λ (r : Reading). r.items) c.in_ok-end_text.ensures.ok in
     let items : c.self-2.inside.items ≡ (c.args.self.now.items ++ text_item c.args.self.now.text) ++ item.Begin c.in_ok-id.id c.new.result c.args.number ∷ [] =
-        ap (λ (r : Reading). r.items) (c.self-2.view_is ∙ c.in_ok-add_node.ensures.ok) ∙ ap (λ (x : List TreeItem). x ++ item.Begin c.in_ok-id.id c.new.result c.args.number ∷ []) ended in
+    ap (λ (r : Reading). r.items) (c.self-2.view_is ∙ c.in_ok-add_node.ensures.ok) ∙ ap (λ (x : List TreeItem). x ++ item.Begin c.in_ok-id.id c.new.result c.args.number ∷ []) ended in
     rw items all

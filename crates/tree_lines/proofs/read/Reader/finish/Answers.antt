@@ -36,11 +36,13 @@ pub invariant_of-self-3 : goal.invariant_of-self-3
 invariant_of-self-3 c =
     let items = c.self-2.inside.items in
     let sound = c.self-2.invariant in
-    record { shallow = sound.shallow;
+    record {
+      shallow = sound.shallow;
       counted = rw c.in_ok-push.ensures.ok (omega (arith, nodes_in-append items (item.Finish ∷ [])));
       few = sound.few;
       short = rw c.in_ok-push.ensures.ok (are_short-append items (item.Finish ∷ []) sound.short (tt, tt));
-      waiting = sound.waiting }
+      waiting = sound.waiting;
+    }
 
 pub returns-clause-closes : goal.returns-clause-closes
 returns-clause-closes c =

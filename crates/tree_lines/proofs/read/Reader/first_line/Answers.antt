@@ -16,7 +16,7 @@ returns-in_err-begin-in-Begin-clause-refused c = λ e rest built table items w.
     let q = passed_on c.from_residual.result c.begin.result _ fault.NotBuilt c.in_err-begin-in-Begin.was c.from_residual.ensures.1 e in
     let none : length c.args.self.now.names ≡ 0 = ap (λ (r : Reading). length r.names) c.requires in
     c.begin.ensures.refused q (first_good c.args.line.now.bytes name rest bytes built) (omega arith) (id_of table (plain_name name)) items
-        (AreWithin-same _ _ (sym (first_items c.args.self.now table c.args.line.now name items c.requires bytes)) w)
+    (AreWithin-same _ _ (sym (first_items c.args.self.now table c.args.line.now name items c.requires bytes)) w)
 
 pub returns-in_ok-begin-in-Begin-clause-closes : goal.returns-in_ok-begin-in-Begin-clause-closes
 returns-in_ok-begin-in-Begin-clause-closes c = λ rest h.
