@@ -25,7 +25,11 @@ pub returns-clause-spelled : goal.returns-clause-spelled
 returns-clause-spelled c =
     let names = c.read_items.new.names in
     let ok = c.in_ok-items.ensures in
-    (ok.built.document, (IsDocument-from_built names c.in_ok-items.items c.args.lines.now ok.built (ok.items names (Grows-same names)) ok.within, ok.built.same))
+    (
+        ok.built.document,
+        IsDocument-from_built names c.in_ok-items.items c.args.lines.now ok.built (ok.items names (Grows-same names)) ok.within,
+        ok.built.same
+    )
 
 pub returns-clause-given : goal.returns-clause-given
 returns-clause-given c = λ table g document same spelled.
