@@ -3,3 +3,4 @@ pub mod Out
 pub mod Outside
 pub mod Status
 pub mod View
+pub mod Sections

@@ -4,7 +4,10 @@
 mod offer;
 mod read;
 mod run;
+mod sections;
 mod status;
+mod top;
 mod view;
 
 pub use status::Status;
+pub use top::serna_alone;

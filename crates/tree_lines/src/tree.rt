@@ -42,6 +42,14 @@ impl Model for Tree {
 impl Tree {
     ghost use Rattle.tree_lines.specs.Whole.{IsTree};
 
+    // The tree of these items.
+    pub(crate) fn from_items(items: Items<TreeItem>) -> Tree
+        requires { IsTree items }
+        ensures { result ≡ items }
+    {
+        Tree { items }
+    }
+
     /// The items, those of one element within the limits of a section.
     pub fn items(&self) -> &[TreeItem]
         ensures value { result.now ≡ self.now }

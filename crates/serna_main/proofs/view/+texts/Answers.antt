@@ -51,5 +51,7 @@ push_kids-loop-kid-preserved t c =
     let kid : NodeName = get_or items c.loop-kid.kid-index (record { 0 = 0 }) in
     let more : kid_texts f (take (c.loop-kid.kid-index + 1) items) ≡ kid_texts f (take c.loop-kid.kid-index items) ++ f kid.0 =
       kid_texts_more f items c.loop-kid.kid-index (record { 0 = 0 }) c.loop-kid-test.true in
-    let now = c.in_ok-push_text.ensures in
-    ?
+    let before : List ℕ = string_bytes c.args.line.now in
+    let so_far : List ℕ = kid_texts f (take c.loop-kid.kid-index items) in
+    c.in_ok-push_text.ensures ∙ ap (λ b. b ++ encode_utf8_all (f kid.0)) c.loop-kid.invariant ∙ append_assoc before (encode_utf8_all so_far) (encode_utf8_all (f kid.0))
+      ∙ ap (λ b. before ++ b) (sym (encodes-append so_far (f kid.0)) ∙ ap encode_utf8_all (sym more))

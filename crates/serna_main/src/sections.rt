@@ -1,0 +1,119 @@
+ghost use Rattle.std.specs.Prelude.{◌≡◌, ◌+◌, ◌^◌, ◌<◌, ◌≤◌, ◌↔◌, ◌∷◌, List, ℕ, Some, None, IsTrue, IfOk, IfSome, IfNone, length, drop, map, position, bytes_eq, ◌==◌};
+ghost use Rattle.std.specs.List.{position_or_len};
+ghost use Rattle.serna_kinds.specs.Names.{NameParts};
+ghost use Rattle.tree_lines.specs.Written.{Written, written_lines};
+ghost use Rattle.tree_lines.specs.Given.{IsDocument, given_of};
+ghost use Rattle.source_tree.specs.Begun.{begun};
+ghost use Rattle.plain_editor.specs.Input.{lines_of, document_head, script_head, IsInput};
+ghost use Rattle.serna_main.specs.Lines.{numbered_lines};
+ghost use Rattle.serna_main.specs.Out.{IsRefused};
+ghost use Rattle.serna_main.specs.Sections.{Begins, IsNoDocument, IsJudged};
+
+use crate::read::MOST;
+use serna_kinds::{Items, NameTable, NoMemory};
+use source_tree::SourceTree;
+use std::alloc::{AllocError, Global};
+use tree_lines::{Line, LineFault, read_tree};
+
+const DOCUMENT_HEAD: &[u8] = b"!document";
+const SCRIPT_HEAD: &[u8] = b"!script";
+
+/// An accepted input: the source that its document begins, its lines, and the place of the script's first line.
+#[derive(Debug, Drop)]
+pub(crate) struct Sections {
+    pub(crate) source: SourceTree,
+    pub(crate) lines: Vec<Line>,
+    pub(crate) first: usize,
+}
+
+/// What the input says, or None where it is refused.
+pub(crate) fn judge(alloc: Global, bytes: &[u8]) -> Result<Option<Sections>, NoMemory>
+    ensures accepted { IfOk result (λ sections. IfSome sections (IsJudged bytes.now)) }
+    ensures refused { IfOk result (λ sections. IfNone sections (IsRefused bytes.now)) }
+{
+    if bytes.len() > MOST {
+        return Ok(None);
+    }
+    let lines = split_lines(alloc, bytes)?;
+    let Some(script) = script_at(lines.as_slice()) else {
+        return Ok(None);
+    };
+    match document_of(alloc, &lines[..script])? {
+        None => Ok(None),
+        Some(source) => Ok(Some(Sections {
+            source,
+            lines,
+            first: script + 1,
+        })),
+    }
+}
+
+/// The lines of a text, numbered from 1.
+fn split_lines(alloc: Global, bytes: &[u8]) -> Result<Vec<Line>, NoMemory>
+    requires { length bytes.now ≤ 16384 }
+    ensures { IfOk result (λ lines. lines.items ≡ numbered_lines 1 (lines_of bytes.now)) }
+{
+    let mut lines = Vec::new(alloc);
+    let mut rest = bytes;
+    let mut number = 1u32;
+    'lines: while !rest.is_empty() {
+        let len = line_len(rest);
+        lines.push(Line {
+            number,
+            bytes: Items::from_slice(alloc, &rest[..len])?,
+        })?;
+        number += 1;
+        rest = behind(rest, len);
+    }
+    Ok(lines)
+}
+
+/// The number of bytes before the first LF, or of all bytes.
+fn line_len(bytes: &[u8]) -> usize
+    ensures { result ≡ position_or_len (λ b. b == 10) bytes.now }
+{
+    bytes.iter().position(|b| *b == b'\n').unwrap_or(bytes.len())
+}
+
+/// What follows the LF at a place.
+fn behind(bytes: &[u8], place: usize) -> &[u8]
+    requires { place ≤ length bytes.now }
+    ensures { result.now ≡ drop (place + 1) bytes.now }
+{
+    if place < bytes.len() { &bytes[place + 1..] } else { &bytes[place..] }
+}
+
+/// The place of the first line that is the head of the script.
+fn script_at(lines: &[Line]) -> Option<usize>
+    ensures { result ≡ position (λ line. bytes_eq line.bytes script_head) lines.now }
+{
+    lines.iter().position(|line| is_head(line, SCRIPT_HEAD))
+}
+
+fn is_head(line: &Line, head: &[u8]) -> bool
+    ensures { result ≡ bytes_eq line.now.bytes head.now }
+{
+    line.bytes.as_slice() == head
+}
+
+/// The source that a document section begins: its head, and the lines of a document. None where it is none.
+fn document_of(alloc: Global, lines: &[Line]) -> Result<Option<SourceTree>, NoMemory>
+    ensures begun { IfOk result (λ found. IfSome found (λ source. Begins (map (λ line. line.bytes) lines.now) source)) }
+    ensures none { IfOk result (λ found. IfNone found (IsNoDocument (map (λ line. line.bytes) lines.now))) }
+{
+    let Some((head, rest)) = lines.split_first() else {
+        return Ok(None);
+    };
+    if !is_head(head, DOCUMENT_HEAD) {
+        return Ok(None);
+    }
+    let mut names = NameTable::new(alloc);
+    match read_tree(alloc, rest, &mut names) {
+        Ok(tree) => {
+            let source = SourceTree::begin(alloc, &tree)?;
+            Ok(Some(source))
+        }
+        Err(LineFault::NotBuilt) => Ok(None),
+        Err(LineFault::NoMemory) => Err(AllocError),
+    }
+}
