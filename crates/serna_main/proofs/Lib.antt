@@ -1,3 +1,4 @@
 pub mod Bytes
 pub mod Replies
 pub mod Texts
+pub mod Splitting

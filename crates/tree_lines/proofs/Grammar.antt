@@ -3,7 +3,7 @@ use Rattle.std.proofs.Common.{◌≡◌, ℕ, ◌+◌, ◌≤◌, List, [], ◌�
 use Rattle.std.proofs.lemmas.Bool.{false≢true}
 use Rattle.std.specs.Prelude.{IsTrue}
 use Rattle.tree_lines.specs.Written.{Written, end, text, element, written_lines, IsSpelled, height_of, is_name, is_text}
-use Rattle.tree_lines.specs.Reading.{IsContent, Closes, IsBuilt, IsOther}
+use Rattle.tree_lines.specs.Reading.{Closes, IsBuilt, IsOther}
 
 -- the first byte of the first line
 abbrev first_byte : List (List ℕ) → ℕ

@@ -1,19 +1,18 @@
 -- Neighbouring texts made one: item by item from the front, and on the document as it is written.
-use Rattle.std.proofs.Common.{◌≡◌, ℕ, ◌+◌, ◌≤◌, ◌<◌, List, [], ◌∷◌, ◌++◌, suc, length, map, refl, sym, ap, ◌∙◌, append_assoc, arith, Bool, true, false}
+use Rattle.std.proofs.Common.{◌≡◌, ℕ, ◌<◌, List, [], ◌∷◌, ◌++◌, map, refl, sym, ap, ◌∙◌, append_assoc, arith, Bool, true, false}
 use Rattle.std.proofs.lemmas.Bool.{and_parts, leb-true}
 use Rattle.serna_kinds.specs.declared.cells.NameId.{NameId}
 use Rattle.std.specs.Prelude.{IsTrue, ◌&&◌, not, ◌==◌, nat_le, if◌then◌else◌}
-use Rattle.std.specs.List.{AllByRecursion, list_all}
 use Rattle.std.specs.Str.{chars, IsAscii}
-use Rattle.std.proofs.lemmas.List.{append-nil, map-append}
+use Rattle.std.proofs.lemmas.List.{append-nil}
 use Rattle.std.proofs.lemmas.Str.{chars-IsAscii, chars-append, IsUtf8-from_ascii, chars-nil}
 use Rattle.std.proofs.lemmas.Str.Ascii.{IsAscii-nil, IsAscii-cons}
 use Rattle.serna_kinds.specs.Names.{NameParts, plain_name, id_of}
 use Rattle.tree_lines.specs.declared.tree.Line.{Line}
 use Rattle.tree_lines.specs.declared.tree.TreeItem.{TreeItem}
 use Rattle.tree_lines.specs.declared.tree.TreeItem.TheVariants as item
-use Rattle.tree_lines.specs.Written.{Written, end, text, element, written_lines, IsSpelled, is_name, is_text, with_text, joined}
-use Rattle.tree_lines.specs.Given.{Given, items_of, numbered_names, given_of}
+use Rattle.tree_lines.specs.Written.{Written, end, text, element, written_lines, IsSpelled, is_text, with_text, joined}
+use Rattle.tree_lines.specs.Given.{items_of, numbered_names, given_of}
 use Rattle.tree_lines.specs.Tokens.{token_in, token_of, with_item, joined_items, without_line}
 use Rattle.tree_lines.specs.Reading.{text_item, IsTag}
 

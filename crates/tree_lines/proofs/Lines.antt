@@ -1,11 +1,11 @@
 -- One line of the lines that are left.
-use Rattle.std.proofs.Common.{◌≡◌, ℕ, ◌+◌, ◌≤◌, ◌<◌, List, [], ◌∷◌, ◌++◌, length, map, drop, get_or, refl, sym, ap, ◌∙◌}
+use Rattle.std.proofs.Common.{◌≡◌, ℕ, ◌+◌, ◌≤◌, ◌<◌, List, [], ◌∷◌, length, map, drop, get_or, refl, sym, ap, ◌∙◌}
 use Rattle.std.proofs.lemmas.List.{drop_more, drop_all}
 use Rattle.serna_kinds.specs.Names.{NameParts}
 use Rattle.tree_lines.specs.declared.tree.Line.{Line}
 use Rattle.tree_lines.specs.declared.tree.TreeItem.{TreeItem}
 use Rattle.tree_lines.specs.Tokens.{token_of, with_item, joined_items}
-use Rattle.tree_lines.specs.Reading.{Reading, Closes, IsBuilt, AreWithin, shown}
+use Rattle.tree_lines.specs.Reading.{Reading, Closes, AreWithin, shown}
 use Rattle.tree_lines.proofs.Grammar.{no_end}
 use Rattle.tree_lines.proofs.Steps.{AreWithin-same}
 

@@ -3,7 +3,7 @@ use Rattle.std.specs.Prelude.{◌≡◌, ◌≢◌, ℕ, ◌+◌, ◌≤◌, Lis
 use Rattle.std.specs.Str.{chars}
 use Rattle.serna_kinds.specs.declared.cells.NameId.{NameId}
 use Rattle.serna_kinds.specs.declared.cells.AttrPair.{AttrPair}
-use Rattle.serna_kinds.specs.Names.{NameParts, plain_name, id_of, Space}
+use Rattle.serna_kinds.specs.Names.{NameParts, plain_name, id_of}
 use Rattle.tree_lines.specs.declared.tree.TreeItem.{TreeItem}
 use Rattle.tree_lines.specs.declared.tree.TreeItem.TheVariants as item
 use Rattle.tree_lines.specs.Written.{Written}

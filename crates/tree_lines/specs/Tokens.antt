@@ -1,6 +1,5 @@
 -- What each line of a document says by itself.
-use Rattle.std.specs.Prelude.{◌≡◌, ℕ, List, [], ◌∷◌, ◌++◌, map, IsSome, slice_get, ◌==◌, if◌then◌else◌}
-use Rattle.std.specs.List.{AllByRecursion}
+use Rattle.std.specs.Prelude.{ℕ, List, [], ◌∷◌, ◌++◌, IsSome, slice_get, ◌==◌, if◌then◌else◌}
 use Rattle.std.specs.Str.{chars}
 use Rattle.serna_kinds.specs.Names.{NameParts, plain_name, id_of}
 use Rattle.tree_lines.specs.declared.tree.Line.{Line}

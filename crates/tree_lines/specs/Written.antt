@@ -1,6 +1,6 @@
 -- A document as it is written, line by line (this project's own form): `(NAME` begins an element, `-TEXT` is text, `)NAME` ends the
 -- innermost element. The built form has printable ASCII alone, no prefixes, and no backslash in a text.
-use Rattle.std.specs.Prelude.{◌≡◌, ℕ, ◌+◌, ◌==◌, ◌≤◌, ◌&&◌, ◌||◌, not, nat_le, Bool, false, List, [], ◌∷◌, ◌++◌, max, IsTrue}
+use Rattle.std.specs.Prelude.{ℕ, ◌+◌, ◌==◌, ◌&&◌, ◌||◌, not, nat_le, Bool, false, List, [], ◌∷◌, ◌++◌, max, IsTrue}
 use Rattle.std.specs.List.{list_all}
 
 -- neighbours as they are written: a text line and what follows it, or an element with its content and what follows it

@@ -1,5 +1,4 @@
 -- ASCII is UTF-8.
-use Rattle.std.proofs.Common.{rules}
 use Rattle.std.proofs.lemmas.Str.{IsUtf8-from_ascii}
 use Rattle.tree_lines.proofs.read.as_ascii.Goals as goal
 

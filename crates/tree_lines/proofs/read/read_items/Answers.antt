@@ -1,6 +1,5 @@
 -- A line more, and the end of the lines.
-use Rattle.std.proofs.Common.{◌≡◌, ℕ, ◌+◌, ◌<◌, ◌≤◌, List, [], ◌∷◌, ◌++◌, length, sym, ap, ◌∙◌, arith}
-use Rattle.serna_kinds.specs.Names.{NameParts, Grows}
+use Rattle.std.proofs.Common.{◌∙◌}
 use Rattle.tree_lines.specs.declared.read.LineFault.TheVariants as fault
 use Rattle.tree_lines.proofs.Lines.{next_closes, next_left, next_items, none_left, all_shown}
 use Rattle.tree_lines.proofs.Steps.{Grows-twice, passed_on}

@@ -1,5 +1,5 @@
 -- What is left of the lines closes the open elements, and what is read with what they say is the whole.
-use Rattle.std.proofs.Common.{◌≡◌, ℕ, List, map, drop}
+use Rattle.std.proofs.Common.{◌≡◌, List, map, drop}
 use Rattle.std.specs.List.{AllByRecursion}
 use Rattle.serna_kinds.specs.Names.{NameParts, Grows}
 use Rattle.tree_lines.specs.declared.tree.Line.{Line}

@@ -1,5 +1,5 @@
 -- A document is what is read, and nothing that is a document is refused.
-use Rattle.std.proofs.Common.{◌≡◌, ℕ, List, map, sym, ap, ◌∙◌}
+use Rattle.std.proofs.Common.{List, map, ap, ◌∙◌}
 use Rattle.tree_lines.specs.declared.read.LineFault.TheVariants as fault
 use Rattle.tree_lines.specs.declared.tree.TreeItem.{TreeItem}
 use Rattle.tree_lines.specs.Tokens.{without_line}
@@ -24,11 +24,10 @@ from_items-requires c =
 pub returns-clause-spelled : goal.returns-clause-spelled
 returns-clause-spelled c =
     let names = c.read_items.new.names in
-    let ok = c.in_ok-items.ensures in
-    (
-        ok.built.document,
-        IsDocument-from_built names c.in_ok-items.items c.args.lines.now ok.built (ok.items names (Grows-same names)) ok.within,
-        ok.built.same
+    let ok = c.in_ok-items.ensures in (
+      ok.built.document,
+      IsDocument-from_built names c.in_ok-items.items c.args.lines.now ok.built (ok.items names (Grows-same names)) ok.within,
+      ok.built.same,
     )
 
 pub returns-clause-given : goal.returns-clause-given

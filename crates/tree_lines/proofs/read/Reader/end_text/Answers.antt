@@ -1,15 +1,12 @@
 -- The waiting text becomes an item where it has characters.
-use Rattle.std.proofs.Common.{◌≡◌, ℕ, ◌+◌, ◌<◌, ◌≤◌, List, [], ◌∷◌, ◌++◌, length, Err, sym, ap, ◌∙◌, arith, ltb}
+use Rattle.std.proofs.Common.{◌≡◌, [], sym, ap, ◌∙◌, arith}
 use Rattle.std.specs.Str.{chars}
 use Rattle.std.specs.String.{string_bytes, string_len}
 use Rattle.std.proofs.lemmas.Bool.{eqb-true, eqb-false}
 use Rattle.std.proofs.lemmas.List.{nil_from_length}
 use Rattle.std.proofs.lemmas.Str.{IsUtf8-string_bytes, encodes-chars, chars-nil}
 use Rattle.tree_lines.specs.declared.read.LineFault.TheVariants as fault
-use Rattle.tree_lines.specs.declared.tree.TreeItem.{TreeItem}
-use Rattle.tree_lines.specs.declared.tree.TreeItem.TheVariants as item
-use Rattle.tree_lines.specs.Reading.{Reading, nodes_in, text_item}
-use Rattle.tree_lines.proofs.Limits.{nodes_in-append}
+use Rattle.tree_lines.specs.Reading.{Reading}
 use Rattle.tree_lines.proofs.Steps.{text_ended, text_item-waiting, text_ended_as, full_behind, passed_on}
 use Rattle.tree_lines.proofs.read.Reader.end_text.Goals as goal
 

@@ -1,12 +1,11 @@
 -- An element that ends.
-use Rattle.std.proofs.Common.{◌≡◌, ℕ, ◌+◌, ◌<◌, ◌≤◌, List, [], ◌∷◌, ◌++◌, length, map, Err, sym, ap, ◌∙◌, arith, Bor}
+use Rattle.std.proofs.Common.{◌≡◌, ℕ, List, [], ◌∷◌, ◌++◌, map, sym, ap, ◌∙◌, arith, Bor}
 use Rattle.std.specs.Prelude.{reverse}
 use Rattle.std.specs.Str.{chars}
 use Rattle.std.specs.String.{string_bytes}
 use Rattle.std.proofs.lemmas.Bool.{not-true, not-false, both_ways}
 use Rattle.std.proofs.lemmas.Slice.Eq.{bytes_eq-Decides}
 use Rattle.tree_lines.specs.declared.read.LineFault.TheVariants as fault
-use Rattle.tree_lines.specs.declared.tree.TreeItem.{TreeItem}
 use Rattle.tree_lines.specs.declared.tree.TreeItem.TheVariants as item
 use Rattle.tree_lines.specs.Reading.{Reading, nodes_in, text_item}
 use Rattle.tree_lines.proofs.Limits.{nodes_in-append, are_short-append}

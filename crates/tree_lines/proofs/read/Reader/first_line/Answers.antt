@@ -1,10 +1,8 @@
 -- The first line begins the outermost element.
-use Rattle.std.proofs.Common.{◌≡◌, ℕ, ◌+◌, ◌<◌, ◌≤◌, List, [], ◌∷◌, ◌++◌, length, sym, ap, ◌∙◌, arith}
-use Rattle.serna_kinds.specs.Names.{NameParts, plain_name, id_of}
+use Rattle.std.proofs.Common.{◌≡◌, [], ◌∷◌, length, sym, ap, ◌∙◌, arith}
+use Rattle.serna_kinds.specs.Names.{plain_name, id_of}
 use Rattle.tree_lines.specs.declared.read.LineFault.TheVariants as fault
-use Rattle.tree_lines.specs.declared.tree.TreeItem.TheVariants as item
-use Rattle.tree_lines.specs.Reading.{Reading, shown}
-use Rattle.tree_lines.specs.Tokens.{token_of, with_item}
+use Rattle.tree_lines.specs.Reading.{Reading}
 use Rattle.tree_lines.proofs.Grammar.{first_closes, first_good}
 use Rattle.tree_lines.proofs.Steps.{first_items, passed_on, AreWithin-same}
 use Rattle.tree_lines.proofs.read.Reader.first_line.Goals as goal

@@ -1,6 +1,6 @@
 -- A line after the first, by its kind.
-use Rattle.std.proofs.Common.{◌≡◌, ℕ, ◌+◌, ◌<◌, ◌≤◌, List, [], ◌∷◌, ◌++◌, length, refl, sym, ap, ◌∙◌, Bor}
-use Rattle.serna_kinds.specs.Names.{NameParts, plain_name, id_of}
+use Rattle.std.proofs.Common.{◌≡◌, ℕ, List, ◌∷◌, refl, sym, ap, ◌∙◌, Bor}
+use Rattle.serna_kinds.specs.Names.{plain_name, id_of}
 use Rattle.tree_lines.specs.declared.read.LineFault.TheVariants as fault
 use Rattle.tree_lines.specs.Reading.{Reading}
 use Rattle.tree_lines.proofs.Grammar.{begun_closes, begun_left, begun_good, texted_closes, texted_left, finished_closes, finished_left, finished_good, other_bad}

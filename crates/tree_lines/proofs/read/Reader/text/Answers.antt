@@ -1,10 +1,8 @@
 -- A text that is added to the one that is waiting.
-use Rattle.std.proofs.Common.{◌≡◌, ℕ, ◌+◌, ◌<◌, ◌≤◌, List, [], ◌∷◌, ◌++◌, length, true, false, sym, ap, ◌∙◌, arith}
-use Rattle.std.specs.Str.{chars}
-use Rattle.std.specs.String.{string_bytes, string_len}
+use Rattle.std.proofs.Common.{ℕ, List, ◌++◌, sym, ap, ◌∙◌, arith}
+use Rattle.std.specs.String.{string_bytes}
 use Rattle.std.proofs.lemmas.Bool.{false≢true}
 use Rattle.std.proofs.lemmas.Str.{IsUtf8-string_bytes}
-use Rattle.tree_lines.specs.Written.{is_text}
 use Rattle.tree_lines.specs.Reading.{Reading}
 use Rattle.tree_lines.proofs.Joining.{IsAscii-from_text}
 use Rattle.tree_lines.proofs.Steps.{text_goes_on, too_long}

@@ -1,0 +1,7 @@
+pub mod Padding
+pub mod WholeNumber
+pub mod ColorValue
+pub mod DecimalNumber
+pub mod UnitOfLength
+pub mod LengthValue
+pub mod Scan

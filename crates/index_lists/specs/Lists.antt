@@ -1,0 +1,28 @@
+-- Words on the places of a list, which are numbers. This project's own.
+use Rattle.std.specs.Prelude.{ℕ, ◌+◌, ◌<◌, ◌≤◌, not, List, [], ◌∷◌, Option, Some, None, ◌==◌, if◌then◌else◌}
+use Rattle.std.specs.List.{count_by, filter}
+
+-- how often a place stands in a list
+abbrev pub times : ℕ → List ℕ → ℕ
+times p xs = count_by (λ x. x == p) xs
+
+-- the list without a place, the order of the rest as it was
+abbrev pub without : ℕ → List ℕ → List ℕ
+without p xs = filter (λ x. not (x == p)) xs
+
+-- the first place of a list; none in an empty one
+abbrev pub first_of : List ℕ → Option ℕ
+first_of [] = None
+first_of (x ∷ xs) = Some x
+
+-- the place right behind p; none where p stands last
+abbrev pub place_after : ℕ → List ℕ → Option ℕ
+place_after p [] = None
+place_after p (x ∷ xs) = if x == p then first_of xs else place_after p xs
+
+-- the new list has places of the old one, and besides these each number from `first` up to `end`
+-- once more at most
+pub record Fills (old new : List ℕ) (first end : ℕ) : Type 0 where
+  pub inside : (p : ℕ) → times p new ≤ times p old + 1
+  pub below : (p : ℕ) → p < first → times p new ≤ times p old
+  pub above : (p : ℕ) → end ≤ p → times p new ≤ times p old

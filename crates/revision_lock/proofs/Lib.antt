@@ -1,0 +1,5 @@
+pub mod Lists
+pub mod Parts
+pub mod Rules
+pub mod Steps
+pub mod Passing

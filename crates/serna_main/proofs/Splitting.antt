@@ -1,0 +1,84 @@
+-- The lines of an input from its front, and the sections that they make.
+use Rattle.std.proofs.Common.{◌≡◌, ◌≢◌, ℕ, zero, suc, ◌+◌, ◌-◌, ◌<◌, ◌≤◌, ◌==◌, ◌⊎◌, inl, inr, not, Bool, true, false, List, [], ◌∷◌, ◌++◌, map, take, drop, length, get_or, Option, Some, None, if◌then◌else◌, refl, sym, ap, ◌∙◌, subst, arith, append_assoc, length-append, zero-add}
+use Rattle.std.proofs.lemmas.Bool.{cases_Bool, true≢false, false≢true, eqb-true}
+use Rattle.std.proofs.lemmas.List.{take_at, drop_at, take-map, drop-map, take-append-drop, length-map, drop_more}
+use Rattle.std.proofs.lemmas.Slice.Eq.{bytes_eq-Decides}
+use Rattle.std.specs.List.{onto_first, position_or_len, position}
+use Rattle.std.specs.Str.{bytes_eq}
+use Rattle.tree_lines.specs.declared.tree.Line.{Line}
+use Rattle.tree_lines.specs.Written.{Written, written_lines}
+use Rattle.tree_lines.specs.Written as written
+use Rattle.tree_lines.specs.Given.{IsDocument}
+use Rattle.plain_editor.specs.Input.{lines_of, document_head, script_head, IsInput}
+use Rattle.serna_main.specs.Lines.{numbered_lines}
+use Rattle.serna_main.proofs.Replies.{bytes_of}
+
+abbrev is_end : ℕ → Bool
+is_end b = b == 10
+
+-- the first line, and the lines behind it
+first_line_by : (b : ℕ) (bs : List ℕ) (t : Bool) → is_end b ≡ t →
+  ((c : ℕ) (cs : List ℕ) → bs ≡ c ∷ cs → lines_of bs ≡ take (position_or_len is_end bs) bs ∷ lines_of (drop (position_or_len is_end bs + 1) bs)) →
+  (if t then [] ∷ lines_of bs else onto_first b (lines_of bs)) ≡
+  take (if not t then 1 + position_or_len is_end bs else 0) (b ∷ bs) ∷ lines_of (drop ((if not t then 1 + position_or_len is_end bs else 0) + 1) (b ∷ bs))
+first_line_by b bs true e later = refl
+first_line_by b [] false e later = refl
+first_line_by b (c ∷ cs) false e later =
+    let n : ℕ = position_or_len is_end (c ∷ cs) in
+    let one : 1 + n ≡ suc n = omega arith in
+    let two : 1 + n + 1 ≡ suc (n + 1) = omega arith in
+    ap (onto_first b) (later c cs refl) ∙ ap (λ k. take k (b ∷ c ∷ cs) ∷ lines_of (drop (n + 1) (c ∷ cs))) (sym one)
+      ∙ ap (λ k. take (1 + n) (b ∷ c ∷ cs) ∷ lines_of (drop k (b ∷ c ∷ cs))) (sym two)
+
+pub lines_of-first : (b : ℕ) (bs : List ℕ) → lines_of (b ∷ bs) ≡ take (position_or_len is_end (b ∷ bs)) (b ∷ bs) ∷ lines_of (drop (position_or_len is_end (b ∷ bs) + 1) (b ∷ bs))
+lines_of-first b [] = first_line_by b [] (is_end b) refl (λ c cs e. cc)
+lines_of-first b (d ∷ ds) = first_line_by b (d ∷ ds) (is_end b) refl (λ c cs e. lines_of-first d ds)
+
+pub lines_of-rest : (bytes : List ℕ) (n : ℕ) → 0 < length bytes → n ≡ position_or_len is_end bytes → lines_of bytes ≡ take n bytes ∷ lines_of (drop (n + 1) bytes)
+lines_of-rest [] n h e = absurd (omega arith)
+lines_of-rest (b ∷ bs) n h e = lines_of-first b bs ∙ ap (λ k. take k (b ∷ bs) ∷ lines_of (drop (k + 1) (b ∷ bs))) (sym e)
+
+-- the bytes of numbered lines
+pub bytes_of-numbered : (number : ℕ) (lines : List (List ℕ)) → bytes_of (numbered_lines number lines) ≡ lines
+bytes_of-numbered number [] = refl
+bytes_of-numbered number (line ∷ lines) = ap (λ ls. line ∷ ls) (bytes_of-numbered (number + 1) lines)
+
+-- the place of the script's head among lines
+abbrev pub is_script : List ℕ → Bool
+is_script line = bytes_eq line script_head
+
+place-map : (lines : List Line) → position_or_len (λ (line : Line). is_script line.bytes) lines ≡ position_or_len is_script (bytes_of lines)
+place-map [] = refl
+place-map (line ∷ lines) = ap (λ n. if not (is_script line.bytes) then 1 + n else 0) (place-map lines)
+
+pub not_script : (line : List ℕ) → (line ≡ script_head → ⊥) → is_script line ≡ false
+not_script line h = elim (cases_Bool (is_script line)) [
+  inl yes ↦ absurd (h ((bytes_eq-Decides line script_head).0 yes))
+  | inr no ↦ no
+]
+
+first_byte : (x y : ℕ) (xs ys : List ℕ) → x ∷ xs ≡ y ∷ ys → x ≡ y
+first_byte x y xs ys e = cc
+
+no_head : (c : ℕ) (rest : List ℕ) → (c ≡ 33 → ⊥) → is_script (c ∷ rest) ≡ false
+no_head c rest h = not_script (c ∷ rest) (λ e. h (first_byte c 33 rest _ e))
+
+-- no line of a document is the script's head
+place_behind : (d : Written) (rest : List (List ℕ)) → position_or_len is_script (written_lines d ++ rest) ≡ length (written_lines d) + position_or_len is_script rest
+place_behind written.end rest = sym (zero-add (position_or_len is_script rest))
+place_behind (written.text t others) rest =
+    ap (λ b. if not b then 1 + position_or_len is_script (written_lines others ++ rest) else 0) (no_head 45 t (λ e. absurd (omega arith)))
+      ∙ (let h = place_behind others rest in omega arith)
+place_behind (written.element name content others) rest =
+    let h = place_behind content (((41 ∷ name) ∷ written_lines others) ++ rest) in
+    let i = place_behind others rest in
+    let finish : position_or_len is_script (((41 ∷ name) ∷ written_lines others) ++ rest) ≡ 1 + position_or_len is_script (written_lines others ++ rest) =
+      ap (λ b. if not b then 1 + position_or_len is_script (written_lines others ++ rest) else 0) (no_head 41 name (λ e. absurd (omega arith))) in
+    let moved : position_or_len is_script ((written_lines content ++ ((41 ∷ name) ∷ written_lines others)) ++ rest) ≡ position_or_len is_script (written_lines content ++ (((41 ∷ name) ∷ written_lines others) ++ rest)) =
+      ap (position_or_len is_script) (append_assoc (written_lines content) ((41 ∷ name) ∷ written_lines others) rest) in
+    ap (λ b. if not b then 1 + position_or_len is_script ((written_lines content ++ ((41 ∷ name) ∷ written_lines others)) ++ rest) else 0) (no_head 40 name (λ e. absurd (omega arith)))
+      ∙ omega (arith, h, i, finish, moved, length-append (written_lines content) ((41 ∷ name) ∷ written_lines others))
+
+-- the script's head stands behind the document's lines
+pub place_of_script : (d : Written) (script : List (List ℕ)) → position_or_len is_script (document_head ∷ (written_lines d ++ (script_head ∷ script))) ≡ 1 + length (written_lines d)
+place_of_script d script = ap (λ n. 1 + n) (place_behind d (script_head ∷ script)) ∙ omega arith

@@ -1,0 +1,5 @@
+pub mod BoundaryLemmas
+pub mod ClusterLemmas
+pub mod ColumnLemmas
+pub mod Rulesets
+pub mod StopLemmas

@@ -1,0 +1,4 @@
+pub mod Clusters
+pub mod Columns
+pub mod Boundaries
+pub mod Stops
