@@ -2,3 +2,4 @@ pub mod Bytes
 pub mod Replies
 pub mod Texts
 pub mod Splitting
+pub mod Answered

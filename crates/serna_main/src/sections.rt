@@ -35,8 +35,9 @@ pub(crate) fn judge(alloc: Global, bytes: &[u8]) -> Result<Option<Sections>, NoM
         return Ok(None);
     }
     let lines = split_lines(alloc, bytes)?;
-    let Some(script) = script_at(lines.as_slice()) else {
-        return Ok(None);
+    let script = match script_at(lines.as_slice()) {
+        Some(place) => place,
+        None => return Ok(None),
     };
     match document_of(alloc, &lines[..script])? {
         None => Ok(None),
@@ -72,7 +73,13 @@ fn split_lines(alloc: Global, bytes: &[u8]) -> Result<Vec<Line>, NoMemory>
 fn line_len(bytes: &[u8]) -> usize
     ensures { result ≡ position_or_len (λ b. b == 10) bytes.now }
 {
-    bytes.iter().position(|b| *b == b'\n').unwrap_or(bytes.len())
+    first_line_feed(bytes).unwrap_or(bytes.len())
+}
+
+fn first_line_feed(bytes: &[u8]) -> Option<usize>
+    ensures { result ≡ position (λ b. b == 10) bytes.now }
+{
+    bytes.iter().position(|b| *b == b'\n')
 }
 
 /// What follows the LF at a place.
