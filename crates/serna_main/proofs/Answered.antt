@@ -1,5 +1,5 @@
 -- How an input is answered, from how its script was run and how the run was closed.
-use Rattle.std.proofs.Common.{◌≡◌, ℕ, ◌+◌, ◌≤◌, ◌<◌, List, [], ◌∷◌, ◌++◌, Option, Some, None, IfSome, ◌⊎◌, inl, inr, length, bytes_eq, encode_utf8_all, if◌then◌else◌, refl, sym, ap, ◌∙◌, subst, arith, length-append}
+use Rattle.std.proofs.Common.{◌≡◌, ℕ, ◌≤◌, ◌<◌, List, [], ◌∷◌, ◌++◌, Option, Some, None, IfSome, inl, inr, length, bytes_eq, encode_utf8_all, if◌then◌else◌, refl, sym, ap, ◌∙◌, subst, arith, length-append}
 use Rattle.std.proofs.lemmas.Bool.{cases_lt}
 use Rattle.std.proofs.lemmas.List.{append-nil}
 use Rattle.tree_lines.specs.Written.{Written}
@@ -7,13 +7,13 @@ use Rattle.source_model.specs.Source.{Source}
 use Rattle.source_model.specs.PlainText.{view_text}
 use Rattle.serna_outside.specs.Outside.{Appends, Consumes, IsAtEnd, Rose}
 use Rattle.plain_editor.specs.Input.{IsInput}
-use Rattle.plain_editor.specs.Editor.{start, shown, reply, replies, show_word, refused_not_built}
+use Rattle.plain_editor.specs.Editor.{start, reply, replies, show_word, refused_not_built}
 use Rattle.plain_editor.proofs.Readings.{one_reading}
 use Rattle.serna_main.specs.declared.status.Status.{Status}
 use Rattle.serna_main.specs.declared.status.Status.TheVariants as status
 use Rattle.serna_main.specs.Outside.{AppendsFront}
-use Rattle.serna_main.specs.Out.{refusal, IsRefused, IsOut, IsWhole, IsAnswered, IsClosed}
-use Rattle.serna_main.proofs.Bytes.{front_none, front_all}
+use Rattle.serna_main.specs.Out.{refusal, IsRefused, IsOut, IsAnswered, IsClosed}
+use Rattle.serna_main.proofs.Bytes.{front_all}
 
 -- sources whose views have one text are answered alike
 reply-same : (a b : Source) → view_text a ≡ view_text b → (line : List ℕ) → reply a line ≡ reply b line
@@ -25,7 +25,7 @@ replies-same a b same (line ∷ script) = ap (λ r. r ++ replies a script) (repl
 
 -- what is a front of the replies to one reading is a front of whatever is out for the input
 pub front_accepted : (input : List ℕ) (d : Written) (s : List (List ℕ)) (h h₁ : Option (List ℕ)) → IsInput input d s → AppendsFront h h₁ (replies (start d) s) →
-  (bytes : List ℕ) (other : Status) → IsOut input bytes other → AppendsFront h h₁ bytes
+    (bytes : List ℕ) (other : Status) → IsOut input bytes other → AppendsFront h h₁ bytes
 front_accepted input d s h h₁ is f bytes status.Ok out =
     let same = one_reading input d out.0 s out.1 is out.2 in
     subst (AppendsFront h h₁) (sym (out.3 ∙ ap (λ e. replies (start e) out.1) (sym same.0) ∙ ap (replies (start d)) (sym same.1))) f
@@ -45,7 +45,7 @@ front_refused input h h₁ is f bytes status.NoMemory out = absurd out
 
 -- a script that was answered whole, and closed
 pub answered_ok : (input : List ℕ) (d : Written) (s : List (List ℕ)) (h h₁ : Option (List ℕ)) (f f₁ : ℕ) (finished : Type 0) (ended : Status) → IsInput input d s →
-  Appends h h₁ (replies (start d) s) → IsClosed status.Ok ended f f₁ finished → IsAnswered input ended h h₁ f f₁ finished
+    Appends h h₁ (replies (start d) s) → IsClosed status.Ok ended f f₁ finished → IsAnswered input ended h h₁ f f₁ finished
 answered_ok input d s h h₁ f f₁ finished status.Ok is written closed = record {
   out = λ w. (replies (start d) s, (d, s, is, refl), written);
   front = front_accepted input d s h h₁ is (front_all h h₁ (replies (start d) s) written);
@@ -71,7 +71,7 @@ answered_ok input d s h h₁ f f₁ finished status.NoMemory is written closed =
 
 -- a run that want of memory ended
 pub answered_no_memory : (input : List ℕ) (h h₁ : Option (List ℕ)) (f f₁ : ℕ) (finished : Type 0) (ended : Status) →
-  ((bytes : List ℕ) (other : Status) → IsOut input bytes other → AppendsFront h h₁ bytes) → ended ≡ status.NoMemory → IsAnswered input ended h h₁ f f₁ finished
+    ((bytes : List ℕ) (other : Status) → IsOut input bytes other → AppendsFront h h₁ bytes) → ended ≡ status.NoMemory → IsAnswered input ended h h₁ f f₁ finished
 answered_no_memory input h h₁ f f₁ finished ended front is =
     subst (λ e. IsAnswered input e h h₁ f f₁ finished) (sym is) (record {
       out = λ w. absurd w;
@@ -85,7 +85,7 @@ answered_no_memory input h h₁ f f₁ finished ended front is =
 
 -- a run that a failed write ended
 pub answered_write_fault : (input : List ℕ) (h h₁ : Option (List ℕ)) (f f₁ : ℕ) (finished : Type 0) →
-  ((bytes : List ℕ) (other : Status) → IsOut input bytes other → AppendsFront h h₁ bytes) → Rose f f₁ → IsAnswered input status.WriteFault h h₁ f f₁ finished
+    ((bytes : List ℕ) (other : Status) → IsOut input bytes other → AppendsFront h h₁ bytes) → Rose f f₁ → IsAnswered input status.WriteFault h h₁ f f₁ finished
 answered_write_fault input h h₁ f f₁ finished front rose = record {
   out = λ w. absurd w;
   front = front;
@@ -98,7 +98,7 @@ answered_write_fault input h h₁ f f₁ finished front rose = record {
 
 -- an input that was refused
 pub answered_refused : (input : List ℕ) (h h₁ : Option (List ℕ)) (f f₁ : ℕ) (finished : Type 0) (ended : Status) → IsRefused input → Appends h h₁ refusal → ended ≡ status.InputRefused →
-  IsAnswered input ended h h₁ f f₁ finished
+    IsAnswered input ended h h₁ f f₁ finished
 answered_refused input h h₁ f f₁ finished ended refused written is =
     subst (λ e. IsAnswered input e h h₁ f f₁ finished) (sym is) (record {
       out = λ w. (refusal, (refused, refl), written);
@@ -122,7 +122,7 @@ pub data Whole (bytes input : List ℕ) : Type 0 where
 
 whole_of : (bytes input rest : List ℕ) → input ≡ bytes ++ rest → (length bytes ≤ 16384 → rest ≡ []) → Whole bytes input
 whole_of bytes input rest is at_end = elim (cases_lt 16384 (length bytes)) [
-  inl long ↦ too_long long (omega (arith, ap length is, length-append bytes rest))
+  | inl long ↦ too_long long (omega (arith, ap length is, length-append bytes rest))
   | inr short ↦ read_whole (is ∙ ap (λ r. bytes ++ r) (at_end short) ∙ append-nil bytes)
 ]
 
@@ -145,13 +145,13 @@ front_whole bytes input h h₁ (too_long long longer) front b status.WriteFault 
 front_whole bytes input h h₁ (too_long long longer) front b status.NoMemory out = absurd out
 
 pub out_of_left : (left left₁ : Option (List ℕ)) (bytes : List ℕ) (ended : Status) (h h₁ : Option (List ℕ)) → Consumes left left₁ bytes → (length bytes ≤ 16384 → IsAtEnd left₁) →
-  ((b : List ℕ) × IsOut bytes b ended × Appends h h₁ b) → IfSome left (λ input. (b : List ℕ) × IsOut input b ended × Appends h h₁ b)
+    ((b : List ℕ) × IsOut bytes b ended × Appends h h₁ b) → IfSome left (λ input. (b : List ℕ) × IsOut input b ended × Appends h h₁ b)
 out_of_left None left₁ bytes ended h h₁ consumed at_end out = tt
 out_of_left (Some input) None bytes ended h h₁ consumed at_end out = absurd consumed
 out_of_left (Some input) (Some rest) bytes ended h h₁ consumed at_end out = out_whole bytes input ended h h₁ (whole_of bytes input rest consumed at_end) out
 
 pub front_of_left : (left left₁ : Option (List ℕ)) (bytes : List ℕ) (h h₁ : Option (List ℕ)) → Consumes left left₁ bytes → (length bytes ≤ 16384 → IsAtEnd left₁) →
-  ((b : List ℕ) (other : Status) → IsOut bytes b other → AppendsFront h h₁ b) → IfSome left (λ input. (b : List ℕ) (other : Status) → IsOut input b other → AppendsFront h h₁ b)
+    ((b : List ℕ) (other : Status) → IsOut bytes b other → AppendsFront h h₁ b) → IfSome left (λ input. (b : List ℕ) (other : Status) → IsOut input b other → AppendsFront h h₁ b)
 front_of_left None left₁ bytes h h₁ consumed at_end front = tt
 front_of_left (Some input) None bytes h h₁ consumed at_end front = absurd consumed
 front_of_left (Some input) (Some rest) bytes h h₁ consumed at_end front = front_whole bytes input h h₁ (whole_of bytes input rest consumed at_end) front

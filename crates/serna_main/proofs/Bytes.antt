@@ -1,5 +1,5 @@
 -- Bytes that are consumed and appended piece by piece.
-use Rattle.std.proofs.Common.{◌≡◌, ℕ, ◌+◌, ◌-◌, ◌<◌, ◌≤◌, List, [], ◌++◌, take, drop, length, Option, Some, None, refl, sym, ap, ◌∙◌, subst, arith, append_assoc}
+use Rattle.std.proofs.Common.{◌≡◌, ℕ, ◌+◌, List, [], ◌++◌, take, drop, Option, Some, None, refl, sym, ap, ◌∙◌, subst, append_assoc}
 use Rattle.std.proofs.Math.Seq.{take-add}
 use Rattle.std.proofs.lemmas.List.{append-nil, take-append-drop}
 use Rattle.serna_outside.specs.Outside.{Appends, Consumes, IsAtEnd}
@@ -49,7 +49,9 @@ front_part a b n bytes h = (take n bytes, drop n bytes, sym (take-append-drop n 
 
 -- a front behind what was written whole
 pub front_then : (a b c : Option (List ℕ)) (xs ys more bytes : List ℕ) → bytes ≡ xs ++ (ys ++ more) → Appends a b xs → AppendsFront b c ys → AppendsFront a c bytes
-front_then a b c xs ys more bytes is h f =
-    (xs ++ f.0, f.1 ++ more,
-      is ∙ ap (λ zs. xs ++ (zs ++ more)) f.2 ∙ ap (λ zs. xs ++ zs) (append_assoc f.0 f.1 more) ∙ sym (append_assoc xs f.0 (f.1 ++ more)),
-      appends_then a b c xs f.0 h f.3)
+front_then a b c xs ys more bytes is h f = (
+  xs ++ f.0,
+  f.1 ++ more,
+  is ∙ ap (λ zs. xs ++ (zs ++ more)) f.2 ∙ ap (λ zs. xs ++ zs) (append_assoc f.0 f.1 more) ∙ sym (append_assoc xs f.0 (f.1 ++ more)),
+  appends_then a b c xs f.0 h f.3,
+)

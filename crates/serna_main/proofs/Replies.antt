@@ -16,10 +16,10 @@ replies-append source (x ∷ xs) ys = ap (λ r. reply source x ++ r) (replies-ap
 pub replies_split : (source : Source) (i : ℕ) (script : List Line) → replies source (bytes_of script) ≡ replies source (bytes_of (take i script)) ++ replies source (bytes_of (drop i script))
 replies_split source i script =
     ap (λ s. replies source (bytes_of s)) (sym (take-append-drop i script)) ∙ ap (replies source) (map-append (λ (line : Line). line.bytes) (take i script) (drop i script))
-      ∙ replies-append source (bytes_of (take i script)) (bytes_of (drop i script))
+    ∙ replies-append source (bytes_of (take i script)) (bytes_of (drop i script))
 
 pub replies_next : (source : Source) (i : ℕ) (script : List Line) (line : Line) → i < length script → line ≡ get_or script i line →
-  replies source (bytes_of script) ≡ replies source (bytes_of (take i script)) ++ (reply source line.bytes ++ replies source (bytes_of (drop (i + 1) script)))
+    replies source (bytes_of script) ≡ replies source (bytes_of (take i script)) ++ (reply source line.bytes ++ replies source (bytes_of (drop (i + 1) script)))
 replies_next source i script line within is =
     replies_split source i script
-      ∙ ap (λ s. replies source (bytes_of (take i script)) ++ replies source (bytes_of s)) (drop_more script i line within ∙ ap (λ l. l ∷ drop (i + 1) script) (sym is))
+    ∙ ap (λ s. replies source (bytes_of (take i script)) ++ replies source (bytes_of s)) (drop_more script i line within ∙ ap (λ l. l ∷ drop (i + 1) script) (sym is))

@@ -1,7 +1,7 @@
 -- The lines of an input from its front, and the sections that they make.
-use Rattle.std.proofs.Common.{◌≡◌, ◌≢◌, ℕ, zero, suc, ◌+◌, ◌-◌, ◌<◌, ◌≤◌, ◌==◌, ◌⊎◌, inl, inr, not, Bool, true, false, List, [], ◌∷◌, ◌++◌, map, take, drop, length, get_or, unwrap_or, Option, Some, None, if◌then◌else◌, refl, sym, ap, ◌∙◌, subst, arith, append_assoc, length-append, zero-add}
-use Rattle.std.proofs.lemmas.Bool.{cases_Bool, cases_lt, lt-ltb, le-ltb, true≢false, false≢true, eqb-true}
-use Rattle.std.proofs.lemmas.List.{take_at, drop_at, take-map, drop-map, take-append-drop, length-map, drop_more}
+use Rattle.std.proofs.Common.{◌≡◌, ℕ, suc, ◌+◌, ◌<◌, ◌≤◌, ◌==◌, inl, inr, not, Bool, true, false, List, [], ◌∷◌, ◌++◌, take, drop, length, get_or, unwrap_or, Some, None, if◌then◌else◌, refl, sym, ap, ◌∙◌, subst, arith, append_assoc, length-append, zero-add}
+use Rattle.std.proofs.lemmas.Bool.{cases_Bool, cases_lt, lt-ltb, le-ltb}
+use Rattle.std.proofs.lemmas.List.{take_at, take-map, drop-map, length-map}
 use Rattle.std.proofs.lemmas.Slice.Eq.{bytes_eq-Decides}
 use Rattle.std.proofs.lemmas.List.Sums.{passes_at_first, split_at_first}
 use Rattle.std.specs.List.{onto_first, position_or_len, position}
@@ -19,9 +19,9 @@ is_end b = b == 10
 
 -- the first line, and the lines behind it
 first_line_by : (b : ℕ) (bs : List ℕ) (t : Bool) → is_end b ≡ t →
-  ((c : ℕ) (cs : List ℕ) → bs ≡ c ∷ cs → lines_of bs ≡ take (position_or_len is_end bs) bs ∷ lines_of (drop (position_or_len is_end bs + 1) bs)) →
-  (if t then [] ∷ lines_of bs else onto_first b (lines_of bs)) ≡
-  take (if not t then 1 + position_or_len is_end bs else 0) (b ∷ bs) ∷ lines_of (drop ((if not t then 1 + position_or_len is_end bs else 0) + 1) (b ∷ bs))
+    ((c : ℕ) (cs : List ℕ) → bs ≡ c ∷ cs → lines_of bs ≡ take (position_or_len is_end bs) bs ∷ lines_of (drop (position_or_len is_end bs + 1) bs)) →
+    (if t then [] ∷ lines_of bs else onto_first b (lines_of bs)) ≡
+    take (if not t then 1 + position_or_len is_end bs else 0) (b ∷ bs) ∷ lines_of (drop ((if not t then 1 + position_or_len is_end bs else 0) + 1) (b ∷ bs))
 first_line_by b bs true e later = refl
 first_line_by b [] false e later = refl
 first_line_by b (c ∷ cs) false e later =
@@ -29,7 +29,7 @@ first_line_by b (c ∷ cs) false e later =
     let one : 1 + n ≡ suc n = omega arith in
     let two : 1 + n + 1 ≡ suc (n + 1) = omega arith in
     ap (onto_first b) (later c cs refl) ∙ ap (λ k. take k (b ∷ c ∷ cs) ∷ lines_of (drop (n + 1) (c ∷ cs))) (sym one)
-      ∙ ap (λ k. take (1 + n) (b ∷ c ∷ cs) ∷ lines_of (drop k (b ∷ c ∷ cs))) (sym two)
+    ∙ ap (λ k. take (1 + n) (b ∷ c ∷ cs) ∷ lines_of (drop k (b ∷ c ∷ cs))) (sym two)
 
 pub lines_of-first : (b : ℕ) (bs : List ℕ) → lines_of (b ∷ bs) ≡ take (position_or_len is_end (b ∷ bs)) (b ∷ bs) ∷ lines_of (drop (position_or_len is_end (b ∷ bs) + 1) (b ∷ bs))
 lines_of-first b [] = first_line_by b [] (is_end b) refl (λ c cs e. cc)
@@ -58,7 +58,7 @@ same_from_test xs ys e = (bytes_eq-Decides xs ys).0 e
 
 pub not_script : (line : List ℕ) → (line ≡ script_head → ⊥) → is_script line ≡ false
 not_script line h = elim (cases_Bool (is_script line)) [
-  inl same ↦ absurd (h (same_from_test line script_head same))
+  | inl same ↦ absurd (h (same_from_test line script_head same))
   | inr other ↦ other
 ]
 
@@ -73,16 +73,16 @@ place_behind : (d : Written) (rest : List (List ℕ)) → position_or_len is_scr
 place_behind written.end rest = sym (zero-add (position_or_len is_script rest))
 place_behind (written.text t others) rest =
     ap (λ b. if not b then 1 + position_or_len is_script (written_lines others ++ rest) else 0) (no_head 45 t (λ e. absurd (omega arith)))
-      ∙ (let h = place_behind others rest in omega arith)
+    ∙ (let h = place_behind others rest in omega arith)
 place_behind (written.element name content others) rest =
     let h = place_behind content (((41 ∷ name) ∷ written_lines others) ++ rest) in
     let i = place_behind others rest in
     let finish : position_or_len is_script (((41 ∷ name) ∷ written_lines others) ++ rest) ≡ 1 + position_or_len is_script (written_lines others ++ rest) =
-      ap (λ b. if not b then 1 + position_or_len is_script (written_lines others ++ rest) else 0) (no_head 41 name (λ e. absurd (omega arith))) in
+    ap (λ b. if not b then 1 + position_or_len is_script (written_lines others ++ rest) else 0) (no_head 41 name (λ e. absurd (omega arith))) in
     let moved : position_or_len is_script ((written_lines content ++ ((41 ∷ name) ∷ written_lines others)) ++ rest) ≡ position_or_len is_script (written_lines content ++ (((41 ∷ name) ∷ written_lines others) ++ rest)) =
-      ap (position_or_len is_script) (append_assoc (written_lines content) ((41 ∷ name) ∷ written_lines others) rest) in
+    ap (position_or_len is_script) (append_assoc (written_lines content) ((41 ∷ name) ∷ written_lines others) rest) in
     ap (λ b. if not b then 1 + position_or_len is_script ((written_lines content ++ ((41 ∷ name) ∷ written_lines others)) ++ rest) else 0) (no_head 40 name (λ e. absurd (omega arith)))
-      ∙ omega (arith, h, i, finish, moved, length-append (written_lines content) ((41 ∷ name) ∷ written_lines others))
+    ∙ omega (arith, h, i, finish, moved, length-append (written_lines content) ((41 ∷ name) ∷ written_lines others))
 
 -- the script's head stands behind the document's lines
 pub place_of_script : (d : Written) (script : List (List ℕ)) → position_or_len is_script (document_head ∷ (written_lines d ++ (script_head ∷ script))) ≡ 1 + length (written_lines d)
@@ -95,22 +95,22 @@ place_le p (x ∷ xs) = elim (p x) as (λ t. (if not t then 1 + position_or_len 
 
 pub unwrap_position : {A : Type 0} (p : A → Bool) (xs : List A) → unwrap_or (position p xs) (length xs) ≡ position_or_len p xs
 unwrap_position p xs = elim (cases_lt (position_or_len p xs) (length xs)) [
-  inl less ↦ ap (λ t. unwrap_or (if t then Some (position_or_len p xs) else None) (length xs)) (lt-ltb (position_or_len p xs) (length xs) less)
+  | inl less ↦ ap (λ t. unwrap_or (if t then Some (position_or_len p xs) else None) (length xs)) (lt-ltb (position_or_len p xs) (length xs) less)
   | inr more ↦ ap (λ t. unwrap_or (if t then Some (position_or_len p xs) else None) (length xs)) (le-ltb (position_or_len p xs) (length xs) more) ∙ (let h = place_le p xs in omega arith)
 ]
 
 -- the place that was found
 pub place_some : (lines : List Line) (k : ℕ) → Some k ≡ position (λ (line : Line). is_script line.bytes) lines → (k ≡ position_or_len is_script (bytes_of lines)) × (k < length lines)
 place_some lines k e = elim (cases_lt (position_or_len (λ (line : Line). is_script line.bytes) lines) (length lines)) [
-  inl less ↦
-    let n : ℕ = position_or_len (λ (line : Line). is_script line.bytes) lines in
-    let found : Some k ≡ Some n = e ∙ ap (λ t. if t then Some n else None) (lt-ltb n (length lines) less) in
-    let same : k ≡ n = cc in
-    (same ∙ place-map lines, subst (λ m. m < length lines) (sym same) less)
+  | inl less ↦
+      let n : ℕ = position_or_len (λ (line : Line). is_script line.bytes) lines in
+      let found : Some k ≡ Some n = e ∙ ap (λ t. if t then Some n else None) (lt-ltb n (length lines) less) in
+      let same : k ≡ n = cc in
+      (same ∙ place-map lines, subst (λ m. m < length lines) (sym same) less)
   | inr more ↦
-    let n : ℕ = position_or_len (λ (line : Line). is_script line.bytes) lines in
-    let none : Some k ≡ None = e ∙ ap (λ t. if t then Some n else None) (le-ltb n (length lines) more) in
-    cc
+      let n : ℕ = position_or_len (λ (line : Line). is_script line.bytes) lines in
+      let none : Some k ≡ None = e ∙ ap (λ t. if t then Some n else None) (le-ltb n (length lines) more) in
+      cc
 ]
 
 -- without the script's head, or without a document before it, nothing is the input
@@ -125,7 +125,7 @@ no_script bytes lines is e d s input =
     cc
 
 pub no_document : (bytes : List ℕ) (lines : List Line) (k : ℕ) → bytes_of lines ≡ lines_of bytes → k ≡ position_or_len is_script (bytes_of lines) →
-  ((d : Written) → IsDocument d → bytes_of (take k lines) ≡ document_head ∷ written_lines d → ⊥) → (d : Written) (s : List (List ℕ)) → IsInput bytes d s → ⊥
+    ((d : Written) → IsDocument d → bytes_of (take k lines) ≡ document_head ∷ written_lines d → ⊥) → (d : Written) (s : List (List ℕ)) → IsInput bytes d s → ⊥
 no_document bytes lines k is place none d s input =
     let whole : bytes_of lines ≡ document_head ∷ (written_lines d ++ (script_head ∷ s)) = is ∙ input.lines in
     let here : k ≡ length (document_head ∷ written_lines d) = place ∙ ap (position_or_len is_script) whole ∙ place_of_script d s ∙ omega arith in
@@ -133,7 +133,7 @@ no_document bytes lines k is place none d s input =
 
 -- a document before the script's head: that is the input
 pub is_input : (bytes : List ℕ) (lines : List Line) (k : ℕ) (d : Written) → bytes_of lines ≡ lines_of bytes → k ≡ position_or_len is_script (bytes_of lines) → k < length lines → length bytes ≤ 16384 →
-  IsDocument d → bytes_of (take k lines) ≡ document_head ∷ written_lines d → IsInput bytes d (bytes_of (drop (k + 1) lines))
+    IsDocument d → bytes_of (take k lines) ≡ document_head ∷ written_lines d → IsInput bytes d (bytes_of (drop (k + 1) lines))
 is_input bytes lines k d is place within short built spelled =
     let all : List (List ℕ) = bytes_of lines in
     let n : ℕ = position_or_len is_script all in
@@ -144,15 +144,15 @@ is_input bytes lines k d is place within short built spelled =
     let rest : drop (n + 1) all ≡ bytes_of (drop (k + 1) lines) = ap (λ m. drop (m + 1) all) (sym place) ∙ drop-map (λ (line : Line). line.bytes) (k + 1) lines in
     record {
       lines = sym is ∙ parts ∙ ap (λ xs. xs ++ (get_or all n [] ∷ drop (n + 1) all)) front ∙ ap (λ x. (document_head ∷ written_lines d) ++ (x ∷ drop (n + 1) all)) head
-        ∙ ap (λ xs. (document_head ∷ written_lines d) ++ (script_head ∷ xs)) rest;
+          ∙ ap (λ xs. (document_head ∷ written_lines d) ++ (script_head ∷ xs)) rest;
       built = built;
       short = short;
     }
 
 -- one line more
 pub next_line : (so_far : List Line) (rest : List ℕ) (len number : ℕ) (line : Line) (all : List Line) → 0 < length rest → len ≡ position_or_len is_end rest → line ≡ record { number = number; bytes = take len rest } →
-  so_far ++ numbered_lines number (lines_of rest) ≡ all → (so_far ++ line ∷ []) ++ numbered_lines (number + 1) (lines_of (drop (len + 1) rest)) ≡ all
+    so_far ++ numbered_lines number (lines_of rest) ≡ all → (so_far ++ line ∷ []) ++ numbered_lines (number + 1) (lines_of (drop (len + 1) rest)) ≡ all
 next_line so_far rest len number line all some is-len is-line inv =
     append_assoc so_far (line ∷ []) (numbered_lines (number + 1) (lines_of (drop (len + 1) rest)))
-      ∙ ap (λ l. so_far ++ (l ∷ numbered_lines (number + 1) (lines_of (drop (len + 1) rest)))) is-line
-      ∙ ap (λ ls. so_far ++ numbered_lines number ls) (sym (lines_of-rest rest len some is-len)) ∙ inv
+    ∙ ap (λ l. so_far ++ (l ∷ numbered_lines (number + 1) (lines_of (drop (len + 1) rest)))) is-line
+    ∙ ap (λ ls. so_far ++ numbered_lines number ls) (sym (lines_of-rest rest len some is-len)) ∙ inv

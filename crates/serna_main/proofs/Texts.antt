@@ -1,5 +1,5 @@
 -- The text of a node by what its cells say.
-use Rattle.std.proofs.Common.{◌≡◌, ℕ, zero, suc, ◌+◌, ◌-◌, ◌<◌, List, [], ◌∷◌, ◌++◌, map, take, length, get_or, Option, Some, None, refl, sym, ap, ◌∙◌, arith}
+use Rattle.std.proofs.Common.{◌≡◌, ℕ, suc, ◌+◌, ◌<◌, List, [], ◌∷◌, ◌++◌, map, take, length, get_or, Option, Some, None, refl, sym, ap, ◌∙◌}
 use Rattle.std.proofs.lemmas.List.{take_more, flat_map_more}
 use Rattle.std.specs.List.{flat_map}
 use Rattle.std.specs.Option.{option_and_then}
@@ -24,7 +24,7 @@ kid_texts-named f [] = refl
 kid_texts-named f (n ∷ ns) = ap (λ xs. f n ++ xs) (kid_texts-named f ns)
 
 body_text : (f : ℕ → List ℕ) (spot : Spot) (body : Body) → spot.body ≡ body → own_text body (flat_map f (numbers spot.kids)) ≡
-  text_by (kind_said (facet_of facet.Label (record { up = spot.up; body = body; kids = spot.kids }))) (kid_texts f (kids_said (facet_of facet.Kids (record { up = spot.up; body = body; kids = spot.kids }))))
+    text_by (kind_said (facet_of facet.Label (record { up = spot.up; body = body; kids = spot.kids }))) (kid_texts f (kids_said (facet_of facet.Kids (record { up = spot.up; body = body; kids = spot.kids }))))
     (text_said (facet_of facet.Text (record { up = spot.up; body = body; kids = spot.kids })))
 body_text f spot Root e = sym (kid_texts-named f (numbers spot.kids))
 body_text f spot (Element name attributes) e = sym (kid_texts-named f (numbers spot.kids))
@@ -32,7 +32,7 @@ body_text f spot (Text t) e = refl
 body_text f spot (Comment t) e = refl
 
 spot_texts : (f : ℕ → List ℕ) (spot : Option Spot) → spot_text f spot ≡
-  text_by (kind_said (option_and_then (facet_of facet.Label) spot)) (kid_texts f (kids_said (option_and_then (facet_of facet.Kids) spot))) (text_said (option_and_then (facet_of facet.Text) spot))
+    text_by (kind_said (option_and_then (facet_of facet.Label) spot)) (kid_texts f (kids_said (option_and_then (facet_of facet.Kids) spot))) (text_said (option_and_then (facet_of facet.Text) spot))
 spot_texts f None = refl
 spot_texts f (Some spot) = body_text f spot spot.body refl
 

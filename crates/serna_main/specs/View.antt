@@ -1,10 +1,9 @@
 -- What the cells of a source say of a node: its kind, the numbers of its children, and its characters.
-use Rattle.std.specs.Prelude.{ℕ, List, [], map, Option, Some, None}
+use Rattle.std.specs.Prelude.{ℕ, List, [], Option, Some, None}
 use Rattle.std.specs.List.{flat_map}
 use Rattle.serna_kinds.specs.declared.cells.NodeName.{NodeName}
 use Rattle.serna_kinds.specs.declared.cells.Facet.TheVariants as facet
 use Rattle.serna_kinds.specs.declared.cells.Kind.{Kind}
-use Rattle.serna_kinds.specs.declared.cells.Kind.TheVariants as kind
 use Rattle.serna_kinds.specs.Content.{Content}
 use Rattle.serna_kinds.specs.Content as content
 use Rattle.source_model.specs.Source.{Source}

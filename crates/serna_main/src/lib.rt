@@ -6,6 +6,8 @@ mod read;
 mod run;
 mod sections;
 mod status;
+#[cfg(test)]
+mod tests;
 mod top;
 mod view;
 

@@ -16,6 +16,7 @@ use std::alloc::{AllocError, Global};
 use tree_lines::{Line, LineFault, read_tree};
 
 const DOCUMENT_HEAD: &[u8] = b"!document";
+
 const SCRIPT_HEAD: &[u8] = b"!script";
 
 /// An accepted input: the source that its document begins, its lines, and the place of the script's first line.
@@ -87,7 +88,11 @@ fn behind(bytes: &[u8], place: usize) -> &[u8]
     requires { place ≤ length bytes.now }
     ensures { result.now ≡ drop (place + 1) bytes.now }
 {
-    if place < bytes.len() { &bytes[place + 1..] } else { &bytes[place..] }
+    if place < bytes.len() {
+        &bytes[place + 1..]
+    } else {
+        &bytes[place..]
+    }
 }
 
 /// The place of the first line that is the head of the script.

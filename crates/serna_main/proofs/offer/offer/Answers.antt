@@ -1,4 +1,4 @@
-use Rattle.std.proofs.Common.{◌≡◌, ◌≤◌, ◌+◌, ◌-◌, length, take, drop, arith, ap, ◌∙◌, sym, subst, List, ℕ}
+use Rattle.std.proofs.Common.{◌≡◌, ◌-◌, length, take, drop, arith, ap, ◌∙◌, sym, subst, List, ℕ}
 use Rattle.serna_outside.specs.Outside.{Appends}
 use Rattle.std.proofs.lemmas.List.{take_rest, length-drop}
 use Rattle.serna_main.proofs.Bytes.{written_more, front_part}
@@ -17,4 +17,4 @@ pub returns-in-Failed-clause-front : goal.returns-in-Failed-clause-front
 returns-in-Failed-clause-front g c =
     let inv = c.rest.invariant in
     front_part (g.K.Sink.held c.args.sink.now) (g.K.Sink.held c.write.new.self) c.rest.done c.args.piece.now
-      (subst (λ h. Appends (g.K.Sink.held c.args.sink.now) h (take c.rest.done c.args.piece.now)) (sym c.in-Failed.ensures.bytes) inv.1)
+    (subst (λ h. Appends (g.K.Sink.held c.args.sink.now) h (take c.rest.done c.args.piece.now)) (sym c.in-Failed.ensures.bytes) inv.1)

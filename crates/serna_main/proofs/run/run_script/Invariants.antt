@@ -8,4 +8,4 @@ use Rattle.serna_main.proofs.run.run_script.Given as goal
 abbrev pub invariant-commands : goal.invariant-commands
 invariant-commands g l =
     Appends (g.K.Sink.held l.initial.sink) (g.K.Sink.held l.sink) (replies l.source (map (λ (line : Line). line.bytes) (take l.line-index l.script)))
-      × (g.K.Sink.faults l.sink ≡ g.K.Sink.faults l.initial.sink)
+    × (g.K.Sink.faults l.sink ≡ g.K.Sink.faults l.initial.sink)

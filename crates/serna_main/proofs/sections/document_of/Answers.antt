@@ -1,9 +1,8 @@
-use Rattle.std.proofs.Common.{◌≡◌, ◌∷◌, List, ℕ, map, ap, ◌∙◌, sym, subst, refl}
+use Rattle.std.proofs.Common.{◌≡◌, ◌∷◌, ap, ◌∙◌, sym}
 use Rattle.serna_main.proofs.Splitting.{same_from_test}
 use Rattle.serna_kinds.proofs.NameLemmas.{Grows-refl}
-use Rattle.tree_lines.specs.Given.{IsDocument, given_of}
+use Rattle.tree_lines.specs.Given.{given_of}
 use Rattle.plain_editor.specs.Input.{document_head}
-use Rattle.serna_main.specs.Sections.{Begins}
 use Rattle.serna_main.proofs.Replies.{bytes_of}
 use Rattle.serna_main.proofs.sections.document_of.Goals as goal
 

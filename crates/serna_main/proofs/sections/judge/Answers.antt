@@ -1,11 +1,11 @@
-use Rattle.std.proofs.Common.{◌≡◌, ◌+◌, ◌<◌, ◌≤◌, List, ◌∷◌, length, take, drop, arith, ap, ◌∙◌, sym, subst, refl}
+use Rattle.std.proofs.Common.{◌≡◌, ◌∷◌, length, take, arith, ap, ◌∙◌, sym, subst}
 use Rattle.std.proofs.lemmas.List.{length-take-le}
 use Rattle.tree_lines.specs.declared.tree.Line.{Line}
 use Rattle.std.specs.List.{position}
 use Rattle.std.specs.Option.{IfNone, IfSome}
 use Rattle.tree_lines.specs.Written.{written_lines}
 use Rattle.plain_editor.specs.Input.{lines_of, document_head}
-use Rattle.serna_main.specs.Sections.{Begins, IsNoDocument, IsJudged}
+use Rattle.serna_main.specs.Sections.{Begins, IsNoDocument}
 use Rattle.serna_main.proofs.Replies.{bytes_of}
 use Rattle.serna_main.proofs.Splitting.{is_script, bytes_of-numbered, place_some, no_script, no_document, is_input}
 use Rattle.serna_main.proofs.sections.judge.Goals as goal
@@ -33,9 +33,9 @@ returns-in-None-2-clause-refused c =
     let lines : bytes_of c.in_ok-lines.lines.items ≡ lines_of c.args.bytes.now = ap bytes_of c.in_ok-lines.ensures ∙ bytes_of-numbered 1 (lines_of c.args.bytes.now) in
     let at = place_some c.in_ok-lines.lines.items c.in-Some.place (c.in-Some.ensures ∙ ap (position (λ (line : Line). is_script line.bytes)) c.as_slice.ensures.value) in
     let none : IsNoDocument (bytes_of (take c.in-Some.place c.deref.result.now)) =
-      subst (λ o. IfNone o (IsNoDocument (bytes_of (take c.in-Some.place c.deref.result.now)))) c.in-None-2.is c.in_ok-document_of.ensures.none in
+    subst (λ o. IfNone o (IsNoDocument (bytes_of (take c.in-Some.place c.deref.result.now)))) c.in-None-2.is c.in_ok-document_of.ensures.none in
     no_document c.args.bytes.now c.in_ok-lines.lines.items c.in-Some.place lines at.0
-      (subst (λ ls. IsNoDocument (bytes_of (take c.in-Some.place ls))) c.deref.ensures.value none)
+    (subst (λ ls. IsNoDocument (bytes_of (take c.in-Some.place ls))) c.deref.ensures.value none)
 
 pub returns-in-Some-2-clause-accepted : goal.returns-in-Some-2-clause-accepted
 returns-in-Some-2-clause-accepted c =
@@ -43,9 +43,9 @@ returns-in-Some-2-clause-accepted c =
     let at = place_some c.in_ok-lines.lines.items c.in-Some.place (c.in-Some.ensures ∙ ap (position (λ (line : Line). is_script line.bytes)) c.as_slice.ensures.value) in
     let within = at.1 in
     let found : Begins (bytes_of (take c.in-Some.place c.deref.result.now)) c.in-Some-2.source =
-      subst (λ o. IfSome o (Begins (bytes_of (take c.in-Some.place c.deref.result.now)))) c.in-Some-2.is c.in_ok-document_of.ensures.begun in
+    subst (λ o. IfSome o (Begins (bytes_of (take c.in-Some.place c.deref.result.now)))) c.in-Some-2.is c.in_ok-document_of.ensures.begun in
     let spelled : bytes_of (take c.in-Some.place c.in_ok-lines.lines.items) ≡ document_head ∷ written_lines found.document =
-      ap (λ ls. bytes_of (take c.in-Some.place ls)) (sym c.deref.ensures.value) ∙ found.spelled in
+    ap (λ ls. bytes_of (take c.in-Some.place ls)) (sym c.deref.ensures.value) ∙ found.spelled in
     record {
       document = found.document;
       is-input = is_input c.args.bytes.now c.in_ok-lines.lines.items c.in-Some.place found.document lines at.0 at.1 c.if-bytes-gt-MOST.false found.built spelled;

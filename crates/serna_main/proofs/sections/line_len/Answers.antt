@@ -1,4 +1,4 @@
-use Rattle.std.proofs.Common.{◌≡◌, ◌==◌, length, unwrap_or, ap, ◌∙◌, ℕ, Option}
+use Rattle.std.proofs.Common.{◌==◌, length, unwrap_or, ap, ◌∙◌, ℕ, Option}
 use Rattle.serna_main.proofs.Splitting.{unwrap_position}
 use Rattle.serna_main.proofs.sections.line_len.Goals as goal
 

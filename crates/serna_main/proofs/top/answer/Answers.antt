@@ -15,7 +15,7 @@ obey-requires g c =
 pub returns-in-Err : goal.returns-in-Err
 returns-in-Err g c =
     answered_no_memory c.args.input.now (g.K.Sink.held c.args.sink.now) (g.K.Sink.held c.close.new.sink) (g.K.Sink.faults c.args.sink.now) (g.K.Sink.faults c.close.new.sink) (g.K.Sink.is_finished c.close.new.sink)
-      c.close.result (λ bytes other out. subst (λ h. AppendsFront (g.K.Sink.held c.args.sink.now) h bytes) (sym c.close.ensures.held) (front_none (g.K.Sink.held c.args.sink.now) bytes)) c.close.ensures.status
+    c.close.result (λ bytes other out. subst (λ h. AppendsFront (g.K.Sink.held c.args.sink.now) h bytes) (sym c.close.ensures.held) (front_none (g.K.Sink.held c.args.sink.now) bytes)) c.close.ensures.status
 
 pub returns-in-Ok-None : goal.returns-in-Ok-None
 returns-in-Ok-None g c =

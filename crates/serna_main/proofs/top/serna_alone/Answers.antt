@@ -1,4 +1,4 @@
-use Rattle.std.proofs.Common.{◌≡◌, ◌≤◌, List, ℕ, length, sym, subst, refl, ap, ◌∙◌, Err}
+use Rattle.std.proofs.Common.{◌≡◌, ◌≤◌, List, ℕ, length, sym, subst, ap, ◌∙◌, Err}
 use Rattle.serna_outside.specs.Outside.{Appends, Consumes, IsAtEnd}
 use Rattle.serna_main.specs.declared.status.Status.TheVariants as status
 use Rattle.serna_main.specs.Out.{IsWhole, IsOut}
@@ -13,7 +13,7 @@ returns-in-Err-Failed g c =
     record {
       out = λ w. absurd (subst IsWhole is w);
       front = if_some_all (g.S.Source.left c.args.source.now) _ (λ input bytes other out.
-        subst (λ h. AppendsFront (g.K.Sink.held c.args.sink.now) h bytes) (sym c.close.ensures.held) (front_none (g.K.Sink.held c.args.sink.now) bytes));
+          subst (λ h. AppendsFront (g.K.Sink.held c.args.sink.now) h bytes) (sym c.close.ensures.held) (front_none (g.K.Sink.held c.args.sink.now) bytes));
       end = λ e. let f : status.ReadFault ≡ status.Ok = sym is ∙ e in cc;
       finished = λ e. let f : status.ReadFault ≡ status.Ok = sym is ∙ e in cc;
       kept_source = λ w. absurd (subst IsWhole is w);
@@ -30,7 +30,7 @@ returns-in-Err-NoMemory g c =
     record {
       out = λ w. absurd (subst IsWhole is w);
       front = if_some_all (g.S.Source.left c.args.source.now) _ (λ input bytes other out.
-        subst (λ h. AppendsFront (g.K.Sink.held c.args.sink.now) h bytes) (sym c.close-in-Err-NoMemory.ensures.held) (front_none (g.K.Sink.held c.args.sink.now) bytes));
+          subst (λ h. AppendsFront (g.K.Sink.held c.args.sink.now) h bytes) (sym c.close-in-Err-NoMemory.ensures.held) (front_none (g.K.Sink.held c.args.sink.now) bytes));
       end = λ e. let f : status.NoMemory ≡ status.Ok = sym is ∙ e in cc;
       finished = λ e. let f : status.NoMemory ≡ status.Ok = sym is ∙ e in cc;
       kept_source = λ w. absurd (subst IsWhole is w);
@@ -55,7 +55,7 @@ returns-in-Ok g c =
       out = λ w. out_of_left left left₁ bytes c.answer.result held held₁ consumed at_end (a.out w);
       front = front_of_left left left₁ bytes held held₁ consumed at_end a.front;
       end = λ e. end_of_left left left₁ bytes held held₁ at_end
-        (subst (λ s. (b : List ℕ) × IsOut bytes b s × Appends held held₁ b) e (a.out (subst IsWhole (sym e) tt)));
+          (subst (λ s. (b : List ℕ) × IsOut bytes b s × Appends held held₁ b) e (a.out (subst IsWhole (sym e) tt)));
       finished = a.closed;
       kept_source = λ w. c.in-Ok.ensures.kept;
       kept_sink = a.kept;

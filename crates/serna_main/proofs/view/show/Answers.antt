@@ -1,4 +1,4 @@
-use Rattle.std.proofs.Common.{◌≡◌, ◌++◌, ◌∷◌, [], ap, ◌∙◌, encode_utf8_all}
+use Rattle.std.proofs.Common.{◌++◌, ◌∷◌, [], ap, ◌∙◌, encode_utf8_all}
 use Rattle.source_model.specs.PlainText.{node_text, view_text}
 use Rattle.serna_main.proofs.view.show.Goals as goal
 

@@ -1,0 +1,11 @@
+pub mod Marked
+pub mod Passing
+pub mod Moment
+pub mod Table
+pub mod Completeness
+pub mod Building
+pub mod Soundness
+pub mod Bytes
+pub mod Faults
+pub mod Reading
+pub mod Knowing

@@ -1,0 +1,11 @@
+pub mod Particle
+pub mod Language
+pub mod Symbols
+pub mod Stack
+pub mod Passes
+pub mod Stored
+pub mod Kept
+pub mod Grammar
+pub mod Machine
+pub mod Shown
+pub mod ShownReader
