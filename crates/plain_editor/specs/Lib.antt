@@ -1,2 +1,3 @@
 pub mod Editor
 pub mod Input
+pub mod Rows

@@ -4,4 +4,4 @@
 
 mod laws;
 
-pub use laws::{names_do_not_show, one_reading};
+pub use laws::{names_do_not_show, one_reading, worked_examples};

@@ -3,3 +3,4 @@ pub mod Parts
 pub mod Rules
 pub mod Steps
 pub mod Passing
+pub mod Crossing

@@ -1,19 +1,19 @@
 -- The lock's start, a split, a join and a close, under the rule.
-use Rattle.std.proofs.Common.{◌≡◌, ◌≢◌, ℕ, zero, suc, ◌+◌, ◌-◌, ◌^◌, ◌<◌, ◌≤◌, Bool, true, false, List, [], ◌∷◌, ◌++◌, length, set, sum_by, Some, refl, sym, ap, subst, ◌∙◌, ⊎_elim, arith, length-set, length-append}
+use Rattle.std.proofs.Common.{◌≡◌, ◌≢◌, ℕ, zero, suc, ◌+◌, ◌-◌, ◌^◌, ◌<◌, ◌≤◌, Bool, true, false, List, [], ◌∷◌, ◌++◌, length, set, sum_by, refl, sym, ap, subst, ◌∙◌, ⊎_elim, arith, length-set, length-append}
 use Rattle.std.proofs.lemmas.List.Sums.{sum_by-append}
-use mathlib.Core.Option.{some, none, some-ne-none, some-injective}
+use mathlib.Core.Option.{some, some-ne-none, some-injective}
 use mathlib.Core.Logic.{dite}
 use mathlib.Core.List.{IsPrefix}
 use native.Mathlib.Decide.{ℕ_discrete}
 use lib.ListN.{get_elem?}
 use Rattle.atomic_table.specs.Table.{State, Splits, Joins, opening, Seen, Final}
-use Rattle.atomic_table.proofs.Lists.{at_set, at_longer, set_here, set_else}
+use Rattle.atomic_table.proofs.Lists.{at_longer, set_else}
 use Rattle.revision_lock.specs.declared.view.Stage.{Stage}
-use Rattle.revision_lock.specs.declared.view.Stage.TheVariants.{Idle, Waits, Works}
+use Rattle.revision_lock.specs.declared.view.Stage.TheVariants.{Idle, Works}
 use Rattle.revision_lock.specs.declared.view.View.{View}
 use Rattle.revision_lock.specs.declared.view.Slot.{Slot}
 use Rattle.revision_lock.specs.declared.view.Slot.TheVariants.{Home}
-use Rattle.revision_lock.specs.Histories.{owned, numbered, merged, longer}
+use Rattle.revision_lock.specs.Histories.{owned, numbered, merged}
 use Rattle.revision_lock.specs.Order.{Course, Stands, Fits, Keeps, Ruled, tickets_at, tickets_in, share_in, first_view, spent_view, left_part, new_part, both}
 use Rattle.revision_lock.proofs.Lists.{sum_set, two_le, at_inside, at_exists, at_one, at_grown, prefix_nil, prefix_longer, given_over, given_over_here, given_over_else}
 use Rattle.revision_lock.proofs.Parts.{owned_same, owned_none, owned_all, no_owner, merged_owned}

@@ -1,7 +1,6 @@
 -- What the rule says of one seat, and how it goes on where the course does.
-use Rattle.std.proofs.Common.{◌≡◌, ◌≢◌, ◌⊎◌, ℕ, zero, suc, ◌+◌, ◌-◌, ◌%◌, ◌^◌, ◌<◌, ◌≤◌, Bool, true, false, List, [], ◌∷◌, ◌++◌, length, set, sum_by, Some, refl, sym, ap, subst, ◌∙◌, ⊎_elim, arith}
-use mathlib.Core.Option.{some, none}
-use mathlib.Core.List.{IsPrefix}
+use Rattle.std.proofs.Common.{◌≡◌, ◌≢◌, ℕ, ◌+◌, ◌^◌, ◌<◌, ◌≤◌, true, false, List, [], ◌∷◌, ◌++◌, length, set, sum_by, refl, sym, ap, subst, ◌∙◌, ⊎_elim, arith}
+use mathlib.Core.Option.{some}
 use lib.ListN.{get_elem?}
 use Rattle.atomic_table.specs.Table.{State}
 use Rattle.atomic_table.proofs.Lists.{at_set, set_else}
@@ -9,8 +8,8 @@ use Rattle.revision_lock.specs.declared.view.Stage.{Stage}
 use Rattle.revision_lock.specs.declared.view.Stage.TheVariants.{Idle, Waits, Works}
 use Rattle.revision_lock.specs.declared.view.View.{View}
 use Rattle.revision_lock.specs.declared.view.Slot.{Slot}
-use Rattle.revision_lock.specs.Order.{Course, Stands, Fits, Ruled, tickets_at, tickets_in, share_in}
-use Rattle.revision_lock.proofs.Lists.{with_at, with_at_else, given_over, at_one, sum_le, sum_le_at}
+use Rattle.revision_lock.specs.Order.{Course, Stands, Ruled, tickets_at, tickets_in, share_in}
+use Rattle.revision_lock.proofs.Lists.{with_at, with_at_else, given_over, at_one, sum_le}
 
 module _ {E : Type 0} where
   -- the course after each step

@@ -16,9 +16,9 @@ use Rattle.revision_lock.specs.declared.view.Stage.{Stage}
 use Rattle.revision_lock.specs.declared.view.Stage.TheVariants.{Idle, Waits, Works}
 use Rattle.revision_lock.specs.declared.view.View.{View}
 use Rattle.revision_lock.specs.declared.view.Slot.{Slot}
-use Rattle.revision_lock.specs.declared.view.Slot.TheVariants.{Home, Away, Shown}
+use Rattle.revision_lock.specs.declared.view.Slot.TheVariants.{Home, Shown}
 use Rattle.revision_lock.specs.Histories.{owned, owned_from, IsInOrder}
-use Rattle.revision_lock.specs.Order.{Course, Stands, Fits, Keeps, Ruled, tickets_at, tickets_in, share_in, at_stage, works, noted, draws, looks, Enters, counts, passes, reads}
+use Rattle.revision_lock.specs.Order.{Course, Stands, Fits, Keeps, Ruled, tickets_at, tickets_in, share_in, at_stage, works, noted, draws, looks, counts, passes, reads}
 use Rattle.revision_lock.proofs.Lists.{sum_set, at_inside, prefix_self, prefix_grown, last_same, with_at, with_at_here, with_at_else}
 use Rattle.revision_lock.proofs.Parts.{owned_yes, owned_no, owned_same, owned-append, owned_in_order}
 use Rattle.revision_lock.proofs.Rules.{after_draw, after_look, after_count, after_pass, stands_draw, stands_look, stands_count, stands_pass, each_set, few_out, served, worker_apart, worker_kept, idle_rests, waits_rests}

@@ -1,5 +1,5 @@
 -- Lists of entries that are numbered from 0, and parts of them. All of it is this project's own.
-use Rattle.std.specs.Prelude.{◌≡◌, ◌⊎◌, ℕ, suc, ◌≤◌, List, [], ◌∷◌, ◌++◌, length, if◌then◌else◌, nat_lt, nat_eq}
+use Rattle.std.specs.Prelude.{◌≡◌, ◌⊎◌, ℕ, suc, ◌≤◌, List, [], ◌∷◌, length, if◌then◌else◌, nat_lt, nat_eq}
 
 module _ {E : Type 0} where
   -- the entries, each with its place, where the first one's place is k

@@ -1,6 +1,6 @@
 -- The rule of the lock, and what each of its steps tells. All of it is this project's own.
 -- A ticket is numbered without an end here; the words keep it modulo 2 ^ 64.
-use Rattle.std.specs.Prelude.{◌≡◌, ◌≢◌, ℕ, ◌+◌, ◌-◌, ◌%◌, ◌^◌, ◌<◌, ◌≤◌, Bool, true, false, List, [], ◌∷◌, ◌++◌, length, sum_by, Option, Some, None}
+use Rattle.std.specs.Prelude.{◌≡◌, ◌≢◌, ℕ, ◌+◌, ◌-◌, ◌%◌, ◌^◌, ◌<◌, ◌≤◌, Bool, true, false, List, [], ◌∷◌, ◌++◌, length, sum_by, Some, None}
 use mathlib.Core.Option as maybe
 use mathlib.Core.List.{IsPrefix}
 use lib.ListN.{get_elem?}
@@ -11,7 +11,7 @@ use Rattle.revision_lock.specs.declared.view.Stage.{Stage}
 use Rattle.revision_lock.specs.declared.view.Stage.TheVariants.{Idle, Waits, Works}
 use Rattle.revision_lock.specs.declared.view.View.{View}
 use Rattle.revision_lock.specs.declared.view.Slot.{Slot}
-use Rattle.revision_lock.specs.declared.view.Slot.TheVariants.{Home, Away, Shown}
+use Rattle.revision_lock.specs.declared.view.Slot.TheVariants.{Home, Shown}
 
 -- What only the rule knows: the one list of entries, the next ticket and the one that is served, which seat has a ticket,
 -- which seat owns the entry at a place, and whether the value is out with the seat that is served

@@ -1,5 +1,5 @@
 -- What contracts read of a lock, of its passes and of a turn. All of it is this project's own.
-use Rattle.std.specs.Prelude.{◌≡◌, ℕ, ◌<◌, ◌%◌, ◌^◌, List, [], ◌∷◌, ◌++◌, length, Some}
+use Rattle.std.specs.Prelude.{◌≡◌, ℕ, ◌<◌, ◌%◌, ◌^◌, List, [], ◌∷◌, Some}
 use Rattle.std.specs.Borrow.{Lends, MutBor, Fml}
 use mathlib.Core.List.{IsPrefix}
 use mir.Syntax.{named}

@@ -5,6 +5,7 @@ use super::*;
 use std::alloc::{AllocError, Global};
 use std::sync::Wait;
 use std::test::*;
+use std::thread::{Threads, join};
 
 /// Numbers in the order in which they were added, under a name.
 #[derive(Drop)]
@@ -82,6 +83,60 @@ fn fill<R: Wait>(
     Ok(pass)
 }
 
+// Two threads take 1,000 turns each. What they noted is then the one pass's.
+fn fill_by_two<R: Threads + Wait + Sync>(
+    rt: &R,
+    lock: &TurnLock<Numbers>,
+    one: Pass<Numbers>,
+    other: Pass<Numbers>,
+    from: u64,
+) -> Result<Pass<Numbers>, AllocError>
+    requires { IsPassOf lock.now one × IsPassOf lock.now other × (from < 2 ^ 32) }
+    ensures { IfOk result (λ p. IsPassOf lock.now p × (share_of p ≡ share_of one + share_of other)) }
+{
+    let (one, other) = join(
+        rt,
+        move || -> Result<Pass<Numbers>, AllocError>
+            requires { IsPassOf lock.now one × (from < 2 ^ 32) }
+            ensures { IfOk result (λ p. IsPassOf lock.entry.now p × (share_of p ≡ share_of one)) }
+        { fill(rt, lock, one, from, 1000) },
+        move || -> Result<Pass<Numbers>, AllocError>
+            requires { IsPassOf lock.now other × (from < 2 ^ 32) }
+            ensures { IfOk result (λ p. IsPassOf lock.entry.now p × (share_of p ≡ share_of other)) }
+        { fill(rt, lock, other, from + 1000, 1000) },
+    );
+    let mut one = one?;
+    lock.join_pass(&mut one, other?);
+    Ok(one)
+}
+
+fn fill_by_four<R: Threads + Wait + Sync>(
+    rt: &R,
+    lock: &TurnLock<Numbers>,
+    mut one: Pass<Numbers>,
+) -> Result<Pass<Numbers>, AllocError>
+    requires { IsPassOf lock.now one × (share_of one ≡ 4) }
+    ensures { IfOk result (λ p. IsPassOf lock.now p × (share_of p ≡ 4)) }
+{
+    let two = lock.split_pass(&mut one);
+    let three = lock.split_pass(&mut one);
+    let four = lock.split_pass(&mut one);
+    let (left, right) = join(
+        rt,
+        move || -> Result<Pass<Numbers>, AllocError>
+            requires { IsPassOf lock.now one × IsPassOf lock.now two × (share_of one ≡ 1) × (share_of two ≡ 1) }
+            ensures { IfOk result (λ p. IsPassOf lock.entry.now p × (share_of p ≡ 2)) }
+        { fill_by_two(rt, lock, one, two, 0) },
+        move || -> Result<Pass<Numbers>, AllocError>
+            requires { IsPassOf lock.now three × IsPassOf lock.now four × (share_of three ≡ 1) × (share_of four ≡ 1) }
+            ensures { IfOk result (λ p. IsPassOf lock.entry.now p × (share_of p ≡ 2)) }
+        { fill_by_two(rt, lock, three, four, 2000) },
+    );
+    let mut left = left?;
+    lock.join_pass(&mut left, right?);
+    Ok(left)
+}
+
 // A lock over no numbers.
 fn new_lock(alloc: Global, seats: u32) -> Result<(TurnLock<Numbers>, Pass<Numbers>), AllocError>
     requires { 0 < seats }
@@ -97,7 +152,7 @@ fn new_lock(alloc: Global, seats: u32) -> Result<(TurnLock<Numbers>, Pass<Number
     }
 }
 
-// How many numbers of each thousand stand there, as far as they stand in their order. A thread or a pass adds the numbers of one thousand.
+// How many numbers of each thousand stand there, as far as they stand in their order. A thread adds the numbers of one thousand.
 fn thousands(numbers: &[u64]) -> [u64; 4] {
     let mut counts = [0u64; 4];
     for x in numbers {
@@ -121,15 +176,25 @@ fn one_thread_adds_in_its_order(rt: HostRuntime) -> Result<(), Fail> {
 }
 
 #[test]
-fn two_passes_add_each_number_once(rt: HostRuntime) -> Result<(), Fail> {
+fn two_threads_add_each_number_once(rt: HostRuntime) -> Result<(), Fail> {
     let (lock, mut pass) = new_lock(rt.alloc(), 2)?;
     let other = lock.split_pass(&mut pass);
-    let pass = fill(&rt, &lock, pass, 0, 400)?;
-    let other = fill(&rt, &lock, other, 1000, 1000)?;
-    let mut pass = fill(&rt, &lock, pass, 400, 600)?;
-    lock.join_pass(&mut pass, other);
+    let pass = fill_by_two(&rt, &lock, pass, other, 0)?;
     let numbers = lock.close(pass);
     assert_eq!(rt; numbers.items.len(), 2000);
     assert_eq!(rt; thousands(numbers.items.as_slice()), [1000, 1000, 0, 0]);
+    Ok(())
+}
+
+#[test]
+fn four_threads_add_each_number_once(rt: HostRuntime) -> Result<(), Fail> {
+    let (lock, pass) = new_lock(rt.alloc(), 4)?;
+    let pass = fill_by_four(&rt, &lock, pass)?;
+    let numbers = lock.close(pass);
+    assert_eq!(rt; numbers.items.len(), 4000);
+    assert_eq!(rt;
+        thousands(numbers.items.as_slice()),
+        [1000, 1000, 1000, 1000]
+    );
     Ok(())
 }

@@ -1,4 +1,4 @@
-use Rattle.std.proofs.Common.{◌≡◌, ap, sym, ◌∙◌, arith}
+use Rattle.std.proofs.Common.{◌≡◌, ap, ◌∙◌, arith}
 use Rattle.revision_lock.specs.Order.{at_stage}
 use Rattle.revision_lock.specs.declared.view.Stage.TheVariants.{Waits}
 use Rattle.revision_lock.proofs.Steps.{draws_allowed, looks_allowed}

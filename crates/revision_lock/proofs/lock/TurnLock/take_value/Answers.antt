@@ -1,4 +1,4 @@
-use Rattle.std.proofs.Common.{◌≡◌, [], ◌∷◌, ap, sym, ◌∙◌}
+use Rattle.std.proofs.Common.{◌∷◌, ap, sym, ◌∙◌}
 use Rattle.atomic_table.specs.Table.{rest}
 use Rattle.revision_lock.specs.declared.view.Slot.TheVariants.{Home}
 use Rattle.revision_lock.proofs.lock.TurnLock.take_value.Goals as goal

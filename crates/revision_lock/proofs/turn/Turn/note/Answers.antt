@@ -1,4 +1,4 @@
-use Rattle.std.proofs.Common.{◌≡◌, [], ◌∷◌, ◌++◌, ◌+◌, ◌-◌, length, length-append, arith, refl, ap, sym, ◌∙◌}
+use Rattle.std.proofs.Common.{◌≡◌, [], ◌∷◌, ◌++◌, ◌-◌, length, length-append, arith, refl, ap, ◌∙◌}
 use Rattle.revision_lock.proofs.Steps.{counts_allowed}
 use Rattle.revision_lock.proofs.turn.Turn.note.Goals as goal
 

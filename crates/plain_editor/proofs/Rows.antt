@@ -1,0 +1,101 @@
+-- The worked examples, computed.
+use Rattle.std.proofs.Common.{◌≡◌, ◌≢◌, ℕ, ◌≤◌, ◌==◌, ◌||◌, Bool, true, false, List, [], ◌∷◌, ◌++◌, length, refl, sym, ap, ◌∙◌, subst, lit≤, encode_utf8_all}
+use Rattle.std.proofs.lemmas.Bool.{false≢true}
+use Rattle.std.specs.Str.{bytes_eq, chars}
+use Rattle.serna_kinds.specs.Names.{NameParts, id_of, plain_name}
+use Rattle.tree_lines.specs.Written.{Written, written_lines}
+use Rattle.tree_lines.specs.Written as written
+use Rattle.tree_lines.specs.Given.{IsDocument, IsWhole, given_of}
+use Rattle.tree_lines.specs.Given as given
+use Rattle.source_model.specs.PlainText.{node_text, view_text}
+use Rattle.source_tree.specs.Begun.{begun}
+use Rattle.plain_editor.specs.Input.{lines_of, document_head, script_head, IsInput}
+use Rattle.plain_editor.specs.Editor.{start, replies, show_word}
+use Rattle.plain_editor.specs.Rows.{doc, oak, empty_document, one_text, cut_off, text_outside, another_head, empty_doc, oak_doc, plain}
+
+pub empty_is_input : IsInput empty_document empty_doc (show_word ∷ [])
+empty_is_input = record {
+  lines = refl;
+  built = record {
+    name = doc;
+    content = written.end;
+    outermost = refl;
+    spelled = (refl, tt, tt);
+    whole = λ names. record { name = id_of names (plain_name doc); content = given.end; outermost = refl; texts = (refl, tt, tt); few = lit≤ tt; shallow = lit≤ tt };
+  };
+  short = lit≤ tt;
+}
+
+pub empty_replies : replies (start empty_doc) (show_word ∷ []) ≡ plain []
+unfolding view_text node_text begun
+empty_replies = refl
+
+pub oak_is_input : IsInput one_text oak_doc (show_word ∷ [])
+unfolding chars lib.Utf8.encode
+oak_is_input = record {
+  lines = refl;
+  built = record {
+    name = doc;
+    content = written.text oak written.end;
+    outermost = refl;
+    spelled = (refl, (refl, tt), tt);
+    whole = λ names. record {
+      name = id_of names (plain_name doc);
+      content = given.text oak given.end;
+      outermost = refl;
+      texts = (refl, ((λ e. cc), lit≤ tt, tt, tt), tt);
+      few = lit≤ tt;
+      shallow = lit≤ tt;
+    };
+  };
+  short = lit≤ tt;
+}
+
+pub oak_replies : replies (start oak_doc) (show_word ∷ []) ≡ plain oak
+unfolding view_text node_text begun chars lib.Utf8.encode
+oak_replies = refl
+
+-- what every input has: the document's head first, the beginning of an element behind it, and the script's head
+abbrev first_is : List ℕ → List (List ℕ) → Bool
+first_is head [] = false
+first_is head (line ∷ lines) = bytes_eq line head
+
+abbrev begins : List ℕ → Bool
+begins [] = false
+begins (c ∷ cs) = c == 40
+
+abbrev second_begins : List (List ℕ) → Bool
+second_begins [] = false
+second_begins (line ∷ []) = false
+second_begins (line ∷ next ∷ lines) = begins next
+
+abbrev has_script : List (List ℕ) → Bool
+has_script [] = false
+has_script (line ∷ lines) = bytes_eq line script_head || has_script lines
+
+or_true : (b : Bool) → (b || true) ≡ true
+or_true true = refl
+or_true false = refl
+
+has_script-behind : (xs ys : List (List ℕ)) → has_script ys ≡ true → has_script (xs ++ ys) ≡ true
+has_script-behind [] ys h = h
+has_script-behind (x ∷ xs) ys h = ap (λ b. bytes_eq x script_head || b) (has_script-behind xs ys h) ∙ or_true (bytes_eq x script_head)
+
+has_head : (input : List ℕ) (d : Written) (s : List (List ℕ)) → IsInput input d s → first_is document_head (lines_of input) ≡ true
+has_head input d s is = ap (first_is document_head) is.lines
+
+has_element : (input : List ℕ) (d : Written) (s : List (List ℕ)) → IsInput input d s → second_begins (lines_of input) ≡ true
+has_element input d s is = ap second_begins (is.lines ∙ ap (λ e. document_head ∷ (written_lines e ++ (script_head ∷ s))) is.built.outermost)
+
+has_script_head : (input : List ℕ) (d : Written) (s : List (List ℕ)) → IsInput input d s → has_script (lines_of input) ≡ true
+has_script_head input d s is = ap has_script is.lines ∙ has_script-behind (document_head ∷ written_lines d) (script_head ∷ s) refl
+
+pub cut_is_none : (d : Written) (s : List (List ℕ)) → IsInput cut_off d s → ⊥
+cut_is_none d s is = false≢true (has_script_head cut_off d s is)
+
+pub outside_is_none : (d : Written) (s : List (List ℕ)) → IsInput text_outside d s → ⊥
+outside_is_none d s is = false≢true (has_element text_outside d s is)
+
+pub head_is_none : (d : Written) (s : List (List ℕ)) → IsInput another_head d s → ⊥
+head_is_none d s is = false≢true (has_head another_head d s is)
+
