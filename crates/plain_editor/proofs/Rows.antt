@@ -1,8 +1,8 @@
 -- The worked examples, computed.
-use Rattle.std.proofs.Common.{◌≡◌, ◌≢◌, ℕ, ◌≤◌, ◌==◌, ◌||◌, Bool, true, false, List, [], ◌∷◌, ◌++◌, length, refl, sym, ap, ◌∙◌, subst, lit≤, encode_utf8_all}
+use Rattle.std.proofs.Common.{◌≡◌, ℕ, ◌==◌, ◌||◌, Bool, true, false, List, [], ◌∷◌, ◌++◌, refl, ap, ◌∙◌, lit≤}
 use Rattle.std.proofs.lemmas.Bool.{false≢true}
 use Rattle.std.specs.Str.{bytes_eq, chars}
-use Rattle.serna_kinds.specs.Names.{NameParts, id_of, plain_name}
+use Rattle.serna_kinds.specs.Names.{id_of, plain_name}
 use Rattle.tree_lines.specs.Written.{Written, written_lines}
 use Rattle.tree_lines.specs.Written as written
 use Rattle.tree_lines.specs.Given.{IsDocument, IsWhole, given_of}
@@ -98,4 +98,3 @@ outside_is_none d s is = false≢true (has_element text_outside d s is)
 
 pub head_is_none : (d : Written) (s : List (List ℕ)) → IsInput another_head d s → ⊥
 head_is_none d s is = false≢true (has_head another_head d s is)
-

@@ -30,5 +30,4 @@ pub fn worked_examples()
     ensures cut { (d : Written) (s : List (List ℕ)) → IsInput cut_off d s → ⊥ }
     ensures outside { (d : Written) (s : List (List ℕ)) → IsInput text_outside d s → ⊥ }
     ensures head { (d : Written) (s : List (List ℕ)) → IsInput another_head d s → ⊥ }
-{
-}
+{}

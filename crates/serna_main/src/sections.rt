@@ -1,10 +1,7 @@
-ghost use Rattle.std.specs.Prelude.{◌≡◌, ◌+◌, ◌^◌, ◌<◌, ◌≤◌, ◌↔◌, ◌∷◌, List, ℕ, Some, None, IsTrue, IfOk, IfSome, IfNone, length, drop, map, position, bytes_eq, ◌==◌};
+ghost use Rattle.std.specs.Prelude.{◌≡◌, ◌+◌, ◌<◌, ◌≤◌, Some, None, IfOk, IfSome, IfNone, length, drop, map, position, bytes_eq, ◌==◌};
 ghost use Rattle.std.specs.List.{position_or_len};
-ghost use Rattle.serna_kinds.specs.Names.{NameParts};
-ghost use Rattle.tree_lines.specs.Written.{Written, written_lines};
-ghost use Rattle.tree_lines.specs.Given.{IsDocument, given_of};
 ghost use Rattle.source_tree.specs.Begun.{begun};
-ghost use Rattle.plain_editor.specs.Input.{lines_of, document_head, script_head, IsInput};
+ghost use Rattle.plain_editor.specs.Input.{lines_of, script_head};
 ghost use Rattle.serna_main.specs.Lines.{numbered_lines};
 ghost use Rattle.serna_main.specs.Out.{IsRefused};
 ghost use Rattle.serna_main.specs.Sections.{Begins, IsNoDocument, IsJudged};

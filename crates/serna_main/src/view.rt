@@ -1,7 +1,7 @@
 ghost use Rattle.std.specs.Prelude.{◌≡◌, ◌++◌, IfOk, OnOk, encode_utf8_all};
 ghost use Rattle.std.specs.Str.{chars};
 ghost use Rattle.std.specs.String.{string_bytes};
-ghost use Rattle.source_model.specs.PlainText.{node_text, view_text};
+ghost use Rattle.source_model.specs.PlainText.{node_text};
 ghost use Rattle.plain_editor.specs.Editor.{shown};
 ghost use Rattle.serna_main.specs.View.{kind_at, kids_at, text_at, kid_texts};
 

@@ -1,10 +1,9 @@
-ghost use Rattle.std.specs.Prelude.{◌≡◌, ◌+◌, ◌*◌, ◌^◌, ◌<◌, ◌≤◌, ◌≢◌, [], ◌∷◌, ◌++◌, IfOk, OnOk, length, map, slice_get, Some, ◌-◌, IsTrue, ◌↔◌};
+ghost use Rattle.std.specs.Prelude.{◌≡◌, ◌+◌, ◌*◌, ◌^◌, ◌<◌, ◌≤◌, IfOk, length, map, Some, ◌-◌, IsTrue, ◌↔◌};
 ghost use Rattle.tree_lines.specs.Given.{Given, items_of};
 ghost use Rattle.tree_lines.specs.Tokens.{without_line};
 ghost use Rattle.source_tree.specs.Growing.{Plants, PlantsAll, BeginsAt, LeafAt};
 ghost use Rattle.tree_lines.specs.declared.tree.TreeItem.TheVariants.{Finish};
-ghost use Rattle.source_tree.specs.Arena.{nodes_of, heads, arena_of};
-ghost use Rattle.source_model.specs.Cells.{named};
+ghost use Rattle.source_tree.specs.Arena.{arena_of};
 
 use crate::SourceTree;
 use crate::node::{Node, NodeBody};

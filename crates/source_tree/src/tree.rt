@@ -1,6 +1,4 @@
 ghost use Rattle.std.specs.Prelude.{◌≡◌};
-ghost use Rattle.std.specs.Option.{option_map};
-ghost use Rattle.serna_kinds.specs.Content.{content_of};
 ghost use Rattle.source_model.specs.Cells.{cell_of};
 
 use crate::node::Node;
@@ -14,7 +12,6 @@ pub struct SourceTree {
 }
 
 impl Model for SourceTree {
-    ghost use Rattle.std.proofs.Common.{rules};
     ghost use Rattle.std.specs.Coded.{codes};
     ghost use Rattle.source_model.specs.Source.{Source};
     ghost use Rattle.source_model.specs.Codes.{source_code};
