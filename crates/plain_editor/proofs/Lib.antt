@@ -1,3 +1,4 @@
 pub mod Readings
 pub mod Renamed
 pub mod Rows
+pub mod Shown

@@ -1,3 +1,4 @@
 pub mod Editor
 pub mod Input
 pub mod Rows
+pub mod Texts

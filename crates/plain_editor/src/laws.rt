@@ -1,11 +1,12 @@
 ghost use Rattle.std.specs.Prelude.{◌≡◌, ℕ, List, [], ◌∷◌};
 ghost use Rattle.serna_kinds.specs.Names.{NameParts};
 ghost use Rattle.tree_lines.specs.Written.{Written};
-ghost use Rattle.tree_lines.specs.Given.{given_of};
+ghost use Rattle.tree_lines.specs.Given.{IsDocument, given_of};
 ghost use Rattle.source_model.specs.PlainText.{view_text};
 ghost use Rattle.source_tree.specs.Begun.{begun};
 ghost use Rattle.plain_editor.specs.Input.{IsInput};
 ghost use Rattle.plain_editor.specs.Editor.{start, replies, show_word};
+ghost use Rattle.plain_editor.specs.Texts.{written_text};
 ghost use Rattle.plain_editor.specs.Rows.{oak, empty_document, one_text, cut_off, text_outside, another_head, empty_doc, oak_doc, plain};
 
 /// An input has one reading at most: one document and one script.
@@ -30,4 +31,9 @@ pub fn worked_examples()
     ensures cut { (d : Written) (s : List (List ℕ)) → IsInput cut_off d s → ⊥ }
     ensures outside { (d : Written) (s : List (List ℕ)) → IsInput text_outside d s → ⊥ }
     ensures head { (d : Written) (s : List (List ℕ)) → IsInput another_head d s → ⊥ }
+{}
+
+/// What `show` prints of a document is what its text lines say, one after another.
+pub fn view_is_the_written_text()
+    ensures { (document : Written) → IsDocument document → view_text (start document) ≡ written_text document }
 {}

@@ -4,4 +4,4 @@
 
 mod laws;
 
-pub use laws::{names_do_not_show, one_reading, worked_examples};
+pub use laws::{names_do_not_show, one_reading, view_is_the_written_text, worked_examples};

@@ -1,0 +1,113 @@
+-- The text of the view is what the text lines of the document say, one after another.
+use Rattle.std.proofs.Common.{◌≡◌, ℕ, zero, suc, ◌+◌, ◌<◌, ◌≤◌, List, [], ◌∷◌, ◌++◌, Option, Some, None, true, refl, sym, ap, ◌∙◌, inl, inr, arith, append_assoc}
+use Rattle.std.proofs.lemmas.Str.{chars-nil, chars-append, IsUtf8-from_ascii}
+use Rattle.std.specs.List.{flat_map}
+use Rattle.std.specs.Str.{chars}
+use Rattle.serna_kinds.specs.Names.{NameParts}
+use Rattle.tree_lines.specs.Written.{Written, IsSpelled, with_text, joined}
+use Rattle.tree_lines.specs.Written as written
+use Rattle.tree_lines.specs.Given.{Given, numbered_names, given_of, count_of, IsDocument}
+use Rattle.tree_lines.specs.Given as given
+use Rattle.tree_lines.proofs.Joining.{IsAscii-from_text}
+use Rattle.source_model.specs.Source.{Body, Forest, Source, numbers}
+use Rattle.source_model.specs.Source as source
+use Rattle.source_model.specs.Cells.{Spot, or_else, spot_in, spot_of}
+use Rattle.source_model.specs.PlainText.{spot_text, node_text, view_text}
+use Rattle.source_tree.specs.Begun.{numbered, begun}
+use Rattle.source_tree.proofs.Numbering.{at_same, at_other, spot_in-outside}
+use Rattle.plain_editor.specs.Editor.{names_of, start}
+use Rattle.plain_editor.specs.Texts.{written_text}
+
+-- the texts of a tree, one after another
+abbrev text_in : Given → List ℕ
+text_in given.end = []
+text_in (given.text t rest) = t ++ text_in rest
+text_in (given.comment t rest) = text_in rest
+text_in (given.element name attributes content rest) = text_in content ++ text_in rest
+
+-- under each number of neighbours stands the node that was numbered so
+abbrev Placed : (ℕ → Option Spot) → ℕ → Given → Type 0
+Placed look k given.end = Unit {0}
+Placed look k (given.text t rest) = ((up : Option ℕ) × (look k ≡ Some (record { up = up; body = source.Text t; kids = source.none }))) × Placed look (k + 1) rest
+Placed look k (given.comment t rest) = ((up : Option ℕ) × (look k ≡ Some (record { up = up; body = source.Comment t; kids = source.none }))) × Placed look (k + 1) rest
+Placed look k (given.element name attributes content rest) =
+    ((up : Option ℕ) × (look k ≡ Some (record { up = up; body = source.Element name attributes; kids = numbered (k + 1) content })))
+    × Placed look (k + 1) content × Placed look (k + 1 + count_of content) rest
+
+-- looking up agrees with the search among neighbours numbered from k
+abbrev Agrees : (ℕ → Option Spot) → Option ℕ → ℕ → Given → Type 0
+Agrees look up k g = (n : ℕ) → k ≤ n → n < k + count_of g → look n ≡ spot_in up n (numbered k g)
+
+or_else-none : (x : Option Spot) → or_else x None ≡ x
+or_else-none None = refl
+or_else-none (Some x) = refl
+
+placed : (look : ℕ → Option Spot) (up : Option ℕ) (k : ℕ) (g : Given) → Agrees look up k g → Placed look k g
+placed look up k given.end agrees = tt
+placed look up k (given.text t rest) agrees = (
+  (up, agrees k (omega arith) (omega arith) ∙ at_same k k _ _ refl),
+  placed look up (k + 1) rest (λ n from to. agrees n (omega arith) (omega arith) ∙ at_other n k _ _ (λ e. absurd (omega arith))),
+)
+placed look up k (given.comment t rest) agrees = (
+  (up, agrees k (omega arith) (omega arith) ∙ at_same k k _ _ refl),
+  placed look up (k + 1) rest (λ n from to. agrees n (omega arith) (omega arith) ∙ at_other n k _ _ (λ e. absurd (omega arith))),
+)
+placed look up k (given.element name attributes content rest) agrees = (
+  (up, agrees k (omega arith) (omega arith) ∙ at_same k k _ _ refl),
+  placed look (Some k) (k + 1) content (λ n from to.
+      agrees n (omega arith) (omega arith) ∙ at_other n k _ _ (λ e. absurd (omega arith))
+      ∙ ap (or_else (spot_in (Some k) n (numbered (k + 1) content))) (spot_in-outside up n (k + 1 + count_of content) rest (inl to))
+      ∙ or_else-none (spot_in (Some k) n (numbered (k + 1) content))),
+  placed look up (k + 1 + count_of content) rest (λ n from to.
+      agrees n (omega arith) (omega arith) ∙ at_other n k _ _ (λ e. absurd (omega arith))
+      ∙ ap (λ o. or_else o (spot_in up n (numbered (k + 1 + count_of content) rest))) (spot_in-outside (Some k) n (k + 1) content (inr from))),
+)
+
+node_text-suc : (left : ℕ) (s : Source) (n : ℕ) → node_text (suc left) s n ≡ spot_text (node_text left s) (spot_of s n)
+unfolding node_text
+node_text-suc left s n = refl
+
+-- what neighbours give together, where enough levels are left
+kids_text : (g : Given) (s : Source) (k left : ℕ) → Placed (spot_of s) k g → given.depth_of g < left → flat_map (node_text left s) (numbers (numbered k g)) ≡ text_in g
+kids_text given.end s k left p d = refl
+kids_text (given.text t rest) s k zero p d = absurd (omega arith)
+kids_text (given.text t rest) s k (suc left) p d =
+    ap (λ x. x ++ flat_map (node_text (suc left) s) (numbers (numbered (k + 1) rest))) (node_text-suc left s k ∙ ap (spot_text (node_text left s)) p.0.1)
+    ∙ ap (λ x. t ++ x) (kids_text rest s (k + 1) (suc left) p.1 d)
+kids_text (given.comment t rest) s k zero p d = absurd (omega arith)
+kids_text (given.comment t rest) s k (suc left) p d =
+    ap (λ x. x ++ flat_map (node_text (suc left) s) (numbers (numbered (k + 1) rest))) (node_text-suc left s k ∙ ap (spot_text (node_text left s)) p.0.1)
+    ∙ kids_text rest s (k + 1) (suc left) p.1 d
+kids_text (given.element name attributes content rest) s k zero p d = absurd (omega arith)
+kids_text (given.element name attributes content rest) s k (suc left) p d =
+    ap (λ x. x ++ flat_map (node_text (suc left) s) (numbers (numbered (k + 1 + count_of content) rest)))
+    (node_text-suc left s k ∙ ap (spot_text (node_text left s)) p.0.1 ∙ kids_text content s (k + 1) left p.1 (omega arith))
+    ∙ ap (λ x. text_in content ++ x) (kids_text rest s (k + 1 + count_of content) (suc left) p.2 (omega arith))
+
+view_text-begun : (g : Given) → given.depth_of g ≤ 120 → view_text (begun g) ≡ text_in g
+unfolding view_text begun
+view_text-begun g d =
+    let s : Source = record { tree = source.node 0 source.Root (numbered 1 g) source.none; made = count_of g; spaces = [] } in
+    let all : Placed (spot_of s) 1 g =
+    placed (spot_of s) (Some 0) 1 g (λ n from to. at_other n 0 _ _ (λ e. absurd (omega arith)) ∙ or_else-none (spot_in (Some 0) n (numbered 1 g))) in
+    node_text-suc 199 s 0 ∙ kids_text g s 1 199 all (omega arith)
+
+-- joining neighbours, and numbering names, keep the text
+with_text-text : (names : List NameParts) (t : List ℕ) (rest : Written) → written.is_text t ≡ true → text_in (numbered_names names (with_text t rest)) ≡ chars t ++ text_in (numbered_names names rest)
+with_text-text names [] rest is = ap (λ x. x ++ text_in (numbered_names names rest)) (sym chars-nil)
+with_text-text names (c ∷ cs) written.end is = refl
+with_text-text names (c ∷ cs) (written.text u rest) is =
+    ap (λ x. x ++ text_in (numbered_names names rest)) (chars-append (c ∷ cs) u (IsUtf8-from_ascii (c ∷ cs) (IsAscii-from_text (c ∷ cs) is)))
+    ∙ append_assoc (chars (c ∷ cs)) (chars u) (text_in (numbered_names names rest))
+with_text-text names (c ∷ cs) (written.element name content rest) is = refl
+
+text_in-given_of : (names : List NameParts) (d : Written) → IsSpelled d → text_in (numbered_names names (joined d)) ≡ written_text d
+text_in-given_of names written.end is = refl
+text_in-given_of names (written.text t rest) is = with_text-text names t (joined rest) is.0 ∙ ap (λ x. chars t ++ x) (text_in-given_of names rest is.1)
+text_in-given_of names (written.element name content rest) is =
+    ap (λ x. x ++ text_in (numbered_names names (joined rest))) (text_in-given_of names content is.1) ∙ ap (λ x. written_text content ++ x) (text_in-given_of names rest is.2)
+
+pub view_text-start : (d : Written) → IsDocument d → view_text (start d) ≡ written_text d
+view_text-start d is =
+    let w = is.whole (names_of d) in
+    view_text-begun (given_of (names_of d) d) w.shallow ∙ text_in-given_of (names_of d) d is.spelled
