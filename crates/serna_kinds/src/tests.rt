@@ -52,6 +52,13 @@ fn notes_each_cell_once(rt: HostRuntime) -> Result<(), Fail> {
 }
 
 #[test]
+fn copies_a_test(rt: HostRuntime) -> Result<(), Fail> {
+    let test = NodeTest::Within(Chars::from_text(rt.alloc(), "u")?);
+    assert!(rt; matches!(test.copy()?, NodeTest::Within(_)));
+    Ok(())
+}
+
+#[test]
 fn holds_characters(rt: HostRuntime) -> Result<(), Fail> {
     let text = Chars::from_text(rt.alloc(), "ß")?;
     assert!(rt; text.copy()?.as_text() == "ß");
