@@ -1,0 +1,16 @@
+pub mod Characters
+pub mod Cuts
+pub mod Digits
+pub mod Extremes
+pub mod Fronts
+pub mod Intervals
+pub mod Members
+pub mod Mirrors
+pub mod Normal
+pub mod Orders
+pub mod Places
+pub mod Division
+pub mod Spelling
+pub mod Sums
+pub mod Written
+pub mod WordsOf

@@ -1,0 +1,8 @@
+use Rattle.std.proofs.Common.{not, sym, ◌∙◌, ap}
+use Rattle.xpath_values.specs.Values.{is_empty, truth}
+use Rattle.xpath_values.proofs.Characters.{empty_text}
+use Rattle.xpath_values.proofs.value.to_truth.Goals as goal
+
+pub returns-in-Text : goal.returns-in-Text
+returns-in-Text c =
+    ap not (c.is_empty-in-Text.ensures ∙ (sym (empty_text _ c.as_text.utf8) ∙ ap is_empty c.as_text.ensures.characters)) ∙ ap truth (sym c.in-Text.is)
