@@ -2,3 +2,8 @@ pub mod Readings
 pub mod Renamed
 pub mod Rows
 pub mod Shown
+pub mod TextPlaces
+pub mod PlacesKept
+pub mod Runs
+pub mod Steps
+pub mod Keystrokes

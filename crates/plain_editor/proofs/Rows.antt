@@ -1,17 +1,22 @@
 -- The worked examples, computed.
 use Rattle.std.proofs.Common.{◌≡◌, ℕ, ◌==◌, ◌||◌, Bool, true, false, List, [], ◌∷◌, ◌++◌, refl, ap, ◌∙◌, lit≤}
 use Rattle.std.proofs.lemmas.Bool.{false≢true}
+use Rattle.std.proofs.lemmas.Fmt.{decimal_digit}
+use Rattle.std.specs.Fmt.{decimal}
+use Rattle.std.specs.Prelude.{codes}
 use Rattle.std.specs.Str.{bytes_eq, chars}
 use Rattle.serna_kinds.specs.Names.{id_of, plain_name}
 use Rattle.tree_lines.specs.Written.{Written, written_lines}
 use Rattle.tree_lines.specs.Written as written
 use Rattle.tree_lines.specs.Given.{IsDocument, IsWhole, given_of}
 use Rattle.tree_lines.specs.Given as given
-use Rattle.source_model.specs.PlainText.{node_text, view_text}
 use Rattle.source_tree.specs.Begun.{begun}
 use Rattle.plain_editor.specs.Input.{lines_of, document_head, script_head, IsInput}
-use Rattle.plain_editor.specs.Editor.{start, replies, show_word}
-use Rattle.plain_editor.specs.Rows.{doc, oak, empty_document, one_text, cut_off, text_outside, another_head, empty_doc, oak_doc, plain}
+use Rattle.plain_editor.specs.Commands.{show_word}
+use Rattle.plain_editor.specs.Runs.{node_runs, view_runs}
+use Rattle.plain_editor.specs.Stops.{view_stops}
+use Rattle.plain_editor.specs.Editor.{NoCaret, Plain, Done, Refused, spaced, reply_text, names_of, start, opened, replies}
+use Rattle.plain_editor.specs.Rows.{doc, oak, text_of_lines, empty_document, one_text, cut_off, text_outside, another_head, empty_doc, oak_doc, plain, types_at_end, typed_at_end, types_into, typed_into, asks, told_what_it_asks}
 
 pub empty_is_input : IsInput empty_document empty_doc (show_word ∷ [])
 empty_is_input = record {
@@ -26,8 +31,8 @@ empty_is_input = record {
   short = lit≤ tt;
 }
 
-pub empty_replies : replies (start empty_doc) (show_word ∷ []) ≡ plain []
-unfolding view_text node_text begun
+pub empty_replies : replies (opened (names_of empty_doc) (start empty_doc)) (show_word ∷ []) ≡ plain []
+unfolding view_runs node_runs view_stops begun lib.Utf8.encode
 empty_replies = refl
 
 pub oak_is_input : IsInput one_text oak_doc (show_word ∷ [])
@@ -51,9 +56,40 @@ oak_is_input = record {
   short = lit≤ tt;
 }
 
-pub oak_replies : replies (start oak_doc) (show_word ∷ []) ≡ plain oak
-unfolding view_text node_text begun chars lib.Utf8.encode
+pub oak_replies : replies (opened (names_of oak_doc) (start oak_doc)) (show_word ∷ []) ≡ plain oak
+unfolding view_runs node_runs view_stops begun chars lib.Utf8.encode
 oak_replies = refl
+
+pub types_at_end_replies : replies (opened (names_of oak_doc) (start oak_doc)) types_at_end ≡ typed_at_end
+unfolding view_runs node_runs view_stops begun chars lib.Utf8.encode
+types_at_end_replies = refl
+
+pub types_into_replies : replies (opened (names_of empty_doc) (start empty_doc)) types_into ≡ typed_into
+unfolding view_runs node_runs view_stops begun chars lib.Utf8.encode
+types_into_replies = refl
+
+-- the same with the numbers 0, 1 and 2 as they are written
+abbrev told_with : List ℕ → List ℕ → List ℕ → List ℕ
+told_with zero one two =
+    reply_text (Refused NoCaret)
+    ++ (reply_text (Plain [])
+    ++ (reply_text Done
+    ++ (spaced (spaced (codes "caret") (spaced one (codes "into"))) (spaced one (spaced one zero) ++ 10 ∷ [])
+    ++ (reply_text Done
+    ++ (spaced (spaced (codes "caret") (spaced two one)) (codes "stale" ++ 10 ∷ [])
+    ++ (text_of_lines (codes "(doc" ∷ codes "-a" ∷ codes ")doc" ∷ [])
+    ++ (reply_text (Plain (97 ∷ []))
+    ++ (spaced (spaced (codes "caret") (spaced two one)) (spaced one (spaced one one) ++ 10 ∷ []) ++ []))))))))
+
+asks_with : replies (opened (names_of empty_doc) (start empty_doc)) asks ≡ told_with (decimal 0) (decimal 1) (decimal 2)
+unfolding view_runs node_runs view_stops begun chars lib.Utf8.encode
+asks_with = refl
+
+pub asks_replies : replies (opened (names_of empty_doc) (start empty_doc)) asks ≡ told_what_it_asks
+unfolding lib.Utf8.encode
+asks_replies =
+    asks_with ∙ ap (λ d. told_with d (decimal 1) (decimal 2)) (decimal_digit 0 (lit≤ tt)) ∙ ap (λ d. told_with (48 ∷ []) d (decimal 2)) (decimal_digit 1 (lit≤ tt))
+    ∙ ap (told_with (48 ∷ []) (49 ∷ [])) (decimal_digit 2 (lit≤ tt))
 
 -- what every input has: the document's head first, the beginning of an element behind it, and the script's head
 abbrev first_is : List ℕ → List (List ℕ) → Bool

@@ -14,7 +14,8 @@ use Rattle.source_model.specs.Source as source
 use Rattle.source_model.specs.Cells.{Spot, or_else, spot_in, spot_of}
 use Rattle.source_model.specs.PlainText.{spot_text, node_text, view_text}
 use Rattle.source_tree.specs.Begun.{numbered, begun}
-use Rattle.source_tree.proofs.Numbering.{at_same, at_other, spot_in-outside}
+use Rattle.source_model.proofs.Spots.{if_same, if_other, spot_in-unused}
+use Rattle.source_tree.proofs.Numbering.{uses-outside}
 use Rattle.plain_editor.specs.Editor.{names_of, start}
 use Rattle.plain_editor.specs.Texts.{written_text}
 
@@ -45,22 +46,22 @@ or_else-none (Some x) = refl
 placed : (look : ℕ → Option Spot) (up : Option ℕ) (k : ℕ) (g : Given) → Agrees look up k g → Placed look k g
 placed look up k given.end agrees = tt
 placed look up k (given.text t rest) agrees = (
-  (up, agrees k (omega arith) (omega arith) ∙ at_same k k _ _ refl),
-  placed look up (k + 1) rest (λ n from to. agrees n (omega arith) (omega arith) ∙ at_other n k _ _ (λ e. absurd (omega arith))),
+  (up, agrees k (omega arith) (omega arith) ∙ if_same k k _ _ refl),
+  placed look up (k + 1) rest (λ n from to. agrees n (omega arith) (omega arith) ∙ if_other n k _ _ (λ e. absurd (omega arith))),
 )
 placed look up k (given.comment t rest) agrees = (
-  (up, agrees k (omega arith) (omega arith) ∙ at_same k k _ _ refl),
-  placed look up (k + 1) rest (λ n from to. agrees n (omega arith) (omega arith) ∙ at_other n k _ _ (λ e. absurd (omega arith))),
+  (up, agrees k (omega arith) (omega arith) ∙ if_same k k _ _ refl),
+  placed look up (k + 1) rest (λ n from to. agrees n (omega arith) (omega arith) ∙ if_other n k _ _ (λ e. absurd (omega arith))),
 )
 placed look up k (given.element name attributes content rest) agrees = (
-  (up, agrees k (omega arith) (omega arith) ∙ at_same k k _ _ refl),
+  (up, agrees k (omega arith) (omega arith) ∙ if_same k k _ _ refl),
   placed look (Some k) (k + 1) content (λ n from to.
-      agrees n (omega arith) (omega arith) ∙ at_other n k _ _ (λ e. absurd (omega arith))
-      ∙ ap (or_else (spot_in (Some k) n (numbered (k + 1) content))) (spot_in-outside up n (k + 1 + count_of content) rest (inl to))
+      agrees n (omega arith) (omega arith) ∙ if_other n k _ _ (λ e. absurd (omega arith))
+      ∙ ap (or_else (spot_in (Some k) n (numbered (k + 1) content))) (spot_in-unused up n (numbered (k + 1 + count_of content) rest) (uses-outside n (k + 1 + count_of content) rest (inl to)))
       ∙ or_else-none (spot_in (Some k) n (numbered (k + 1) content))),
   placed look up (k + 1 + count_of content) rest (λ n from to.
-      agrees n (omega arith) (omega arith) ∙ at_other n k _ _ (λ e. absurd (omega arith))
-      ∙ ap (λ o. or_else o (spot_in up n (numbered (k + 1 + count_of content) rest))) (spot_in-outside (Some k) n (k + 1) content (inr from))),
+      agrees n (omega arith) (omega arith) ∙ if_other n k _ _ (λ e. absurd (omega arith))
+      ∙ ap (λ o. or_else o (spot_in up n (numbered (k + 1 + count_of content) rest))) (spot_in-unused (Some k) n (numbered (k + 1) content) (uses-outside n (k + 1) content (inr from)))),
 )
 
 node_text-suc : (left : ℕ) (s : Source) (n : ℕ) → node_text (suc left) s n ≡ spot_text (node_text left s) (spot_of s n)
@@ -89,7 +90,7 @@ unfolding view_text begun
 view_text-begun g d =
     let s : Source = record { tree = source.node 0 source.Root (numbered 1 g) source.none; made = count_of g; spaces = [] } in
     let all : Placed (spot_of s) 1 g =
-    placed (spot_of s) (Some 0) 1 g (λ n from to. at_other n 0 _ _ (λ e. absurd (omega arith)) ∙ or_else-none (spot_in (Some 0) n (numbered 1 g))) in
+    placed (spot_of s) (Some 0) 1 g (λ n from to. if_other n 0 _ _ (λ e. absurd (omega arith)) ∙ or_else-none (spot_in (Some 0) n (numbered 1 g))) in
     node_text-suc 199 s 0 ∙ kids_text g s 1 199 all (omega arith)
 
 -- joining neighbours, and numbering names, keep the text

@@ -1,45 +1,221 @@
--- The plain editor: it holds one source, answers each command in turn, and at every `show` gives the text of the whole source anew.
-use Rattle.std.specs.Prelude.{ℕ, List, [], ◌∷◌, ◌++◌, fold, bytes_eq, encode_utf8_all, if◌then◌else◌}
-use Rattle.std.specs.List.{flat_map}
-use Rattle.serna_kinds.specs.Names.{NameParts, plain_name, with_name}
+-- The plain editor: it holds one source, changes it at each accepted keystroke at the place of the caret alone, and at every `show`
+-- gives the text of the whole source anew (this project's own).
+use Rattle.std.specs.Prelude.{ℕ, ◌+◌, nat_lt, nat_le, Bool, false, List, [], ◌∷◌, ◌++◌, filter, filter_map, length, Option, Some, None, codes, decimal, encode_utf8_all, if◌then◌else◌, ◌&&◌, ◌==◌}
+use Rattle.serna_kinds.specs.Names.{NameParts}
 use Rattle.tree_lines.specs.Written.{Written}
-use Rattle.tree_lines.specs.Written as written
+use Rattle.tree_lines.specs.Tokens.{names_with}
 use Rattle.tree_lines.specs.Given.{given_of}
 use Rattle.source_model.specs.Source.{Source}
-use Rattle.source_model.specs.PlainText.{view_text}
+use Rattle.source_model.specs.Cells.{named}
+use Rattle.source_model.specs.Changes.{text_at}
 use Rattle.source_tree.specs.Begun.{begun}
+use Rattle.source_tree.specs.declared.prim.CaretPlace.{CaretPlace}
+use Rattle.source_tree.specs.declared.prim.CaretPlace.TheVariants.{Text, Into}
+use Rattle.source_tree.specs.declared.prim.Caret.{Caret}
+use Rattle.source_tree.specs.declared.prim.Primitive.{Primitive}
+use Rattle.source_tree.specs.declared.prim.Primitive.TheVariants.{InsertText, InsertChild}
+use Rattle.source_tree.specs.declared.prim.SubItem.TheVariants as item
+use Rattle.source_tree.specs.Prims.{applied}
+use Rattle.source_tree.specs.Places.{carried_through}
+use Rattle.source_tree.specs.Unnumbered.{document_of}
+use Rattle.tree_lines.specs.Canonical.{canonical_text}
+use Rattle.plain_editor.specs.Runs.{Origin, texts_of, view_runs}
+use Rattle.plain_editor.specs.Runs as origin
+use Rattle.plain_editor.specs.Stops.{Stop, is_same_place, view_stops}
+use Rattle.plain_editor.specs.Commands.{Command, command_of}
+use Rattle.plain_editor.specs.Commands as command
 
--- the names of a document's elements, in document order
-abbrev pub element_names : Written → List (List ℕ)
-element_names written.end = []
-element_names (written.text t rest) = element_names rest
-element_names (written.element name content rest) = name ∷ (element_names content ++ element_names rest)
-
--- the table of these names, each once
+-- the table of the names of a document's elements
 abbrev pub names_of : Written → List NameParts
-names_of document = fold (λ names name. with_name names (plain_name name)) [] (element_names document)
+names_of document = names_with [] document
 
 -- the source that the editor starts with
 abbrev pub start : Written → Source
 start document = begun (given_of (names_of document) document)
 
--- `show`
-abbrev pub show_word : List ℕ
-show_word = 115 ∷ 104 ∷ 111 ∷ 119 ∷ []
+-- the editor's state: the table of names, the source, how many changes it has accepted, the caret, the stops of the last show, and the prims since then
+pub record Editor : Type 0 where
+  pub names : List NameParts
+  pub source : Source
+  pub revision : ℕ
+  pub caret : Option Caret
+  pub stops : Option (List Stop)
+  pub since : List Primitive
 
--- `plain`, a space and the text of the view
-abbrev pub shown : Source → List ℕ
-shown source = (112 ∷ 108 ∷ 97 ∷ 105 ∷ 110 ∷ 32 ∷ []) ++ (encode_utf8_all (view_text source) ++ 10 ∷ [])
+-- before the first command
+abbrev pub opened : List NameParts → Source → Editor
+opened names source = record { names = names; source = source; revision = 0; caret = None; stops = None; since = [] }
 
--- `refused not-built`
-abbrev pub refused_not_built : List ℕ
-refused_not_built =
-    114 ∷ 101 ∷ 102 ∷ 117 ∷ 115 ∷ 101 ∷ 100 ∷ 32 ∷ 110 ∷ 111 ∷ 116 ∷ 45 ∷ 98 ∷ 117 ∷ 105 ∷ 108 ∷ 116 ∷ 10 ∷ []
+-- why a command is refused
+pub data Rule : Type 0 where
+  NotBuilt : Rule
+  NoView : Rule
+  NoPlace : Rule
+  FixedText : Rule
+  NoCaret : Rule
+  Long : Rule
+  Nodes : Rule
+  Revisions : Rule
 
--- what a command line is answered
-abbrev pub reply : Source → List ℕ → List ℕ
-reply source line = if bytes_eq line show_word then shown source else refused_not_built
+abbrev pub rule_word : Rule → List ℕ
+rule_word NotBuilt = codes "not-built"
+rule_word NoView = codes "no-view"
+rule_word NoPlace = codes "no-place"
+rule_word FixedText = codes "fixed"
+rule_word NoCaret = codes "no-caret"
+rule_word Long = codes "long"
+rule_word Nodes = codes "nodes"
+rule_word Revisions = codes "revisions"
+
+-- where a caret stands: a change was accepted since the last show; or the last view has no stop at its place; or at a page, a line and
+-- a column
+pub data Standing : Type 0 where
+  Stale : Standing
+  Hidden : Standing
+  Shown : ℕ → ℕ → ℕ → Standing
+
+-- what a command is answered: the text of a view, the place of a caret and where it stands, the tree lines, that it was done, or why not
+pub data Reply : Type 0 where
+  Plain : List ℕ → Reply
+  Told : CaretPlace → Standing → Reply
+  Lines : List ℕ → Reply
+  Done : Reply
+  Refused : Rule → Reply
+
+-- parts with a space between them
+abbrev pub spaced : List ℕ → List ℕ → List ℕ
+spaced before behind = before ++ 32 ∷ behind
+
+abbrev pub place_words : CaretPlace → List ℕ
+place_words (Text number at) = spaced (codes "caret") (spaced (decimal number.0) (decimal at))
+place_words (Into number) = spaced (codes "caret") (spaced (decimal number.0) (codes "into"))
+
+abbrev pub standing_words : Standing → List ℕ
+standing_words Stale = codes "stale"
+standing_words Hidden = codes "hidden"
+standing_words (Shown page line column) = spaced (decimal page) (spaced (decimal line) (decimal column))
+
+-- what is written for a reply, each line with its LF
+abbrev pub reply_text : Reply → List ℕ
+reply_text (Plain text) = codes "plain " ++ (encode_utf8_all text ++ 10 ∷ [])
+reply_text (Told place standing) = spaced (place_words place) (standing_words standing ++ 10 ∷ [])
+reply_text (Lines text) = text
+reply_text Done = codes "ok" ++ 10 ∷ []
+reply_text (Refused rule) = codes "refused " ++ (rule_word rule ++ 10 ∷ [])
+
+-- `show`: the text of the view of the present source; its stops are kept
+abbrev pub shown : Editor → Editor
+shown editor =
+    record { names = editor.names; source = editor.source; revision = editor.revision; caret = editor.caret; stops = Some (view_stops editor.source); since = [] }
+
+-- the editor with another caret
+abbrev pub with_caret : Editor → CaretPlace → ℕ → Editor
+with_caret editor place occurrence = record {
+  names = editor.names;
+  source = editor.source;
+  revision = editor.revision;
+  caret = Some (record { place = place; occurrence = occurrence });
+  stops = editor.stops;
+  since = editor.since;
+}
+
+abbrev pub stands_at : ℕ → ℕ → ℕ → Stop → Bool
+stands_at page line column stop = stop.page == page && stop.line == line && stop.column == column
+
+-- the caret that a stop takes, where it is at a place
+abbrev pub caret_of : Stop → Option Caret
+caret_of stop = elim stop.origin [ origin.At place ↦ Some (record { place = place; occurrence = stop.occurrence }) | origin.Fixed rule ↦ None ]
+
+-- of the stops that are there, the first that is at a place is taken, and the place is carried through the prims since the show; where
+-- none is at a place, the first says why
+abbrev pub put_first : Editor → List Stop → List Caret → Editor × Reply
+put_first editor here (caret ∷ carets) = (with_caret editor (carried_through editor.since caret.place) caret.occurrence, Done)
+put_first editor [] [] = (editor, Refused NoPlace)
+put_first editor (stop ∷ stops) [] = (editor, Refused FixedText)
+
+abbrev pub put_among : Editor → List Stop → Editor × Reply
+put_among editor here = put_first editor here (filter_map caret_of here)
+
+-- `at`
+abbrev pub put_at : Editor → ℕ → ℕ → ℕ → Option (List Stop) → Editor × Reply
+put_at editor page line column None = (editor, Refused NoView)
+put_at editor page line column (Some stops) = put_among editor (filter (stands_at page line column) stops)
+
+-- an accepted change by one prim, and where it leaves the caret
+abbrev pub changed : Editor → Primitive → CaretPlace → ℕ → Editor
+changed editor prim place occurrence = record {
+  names = editor.names;
+  source = applied prim editor.source;
+  revision = editor.revision + 1;
+  caret = Some (record { place = place; occurrence = occurrence });
+  stops = editor.stops;
+  since = editor.since ++ prim ∷ [];
+}
+
+abbrev pub bytes_of : List ℕ → ℕ
+bytes_of text = length (encode_utf8_all text)
+
+-- how many bytes a text node has
+abbrev pub bytes_at : Source → ℕ → ℕ
+bytes_at source n = elim (text_at source n) [ None ↦ 0 | Some text ↦ bytes_of text ]
+
+-- `type`: at a place in a text the characters are put in there; in an element they make a new text, its first child. The caret stands
+-- behind them. A text has at most 16,384 bytes, 1,000,000 nodes are made at most, and 50,000 changes accepted.
+abbrev pub typed_at : Editor → List ℕ → CaretPlace → ℕ → Editor × Reply
+typed_at editor text (Text number at) occurrence =
+    if nat_lt 16384 (bytes_at editor.source number.0 + bytes_of text) then (editor, Refused Long)
+    else if nat_le 50000 editor.revision then (editor, Refused Revisions)
+    else (changed editor (InsertText number at text) (Text number (at + bytes_of text)) occurrence, Done)
+typed_at editor text (Into number) occurrence =
+    if nat_lt 16384 (bytes_of text) then (editor, Refused Long)
+    else if nat_le 1000000 editor.source.made then (editor, Refused Nodes)
+    else if nat_le 50000 editor.revision then (editor, Refused Revisions)
+    else (changed editor (InsertChild number 0 (item.Text (named (editor.source.made + 1)) text ∷ [])) (Text (named (editor.source.made + 1)) (bytes_of text)) occurrence, Done)
+
+abbrev pub typed : Editor → List ℕ → Option Caret → Editor × Reply
+typed editor text None = (editor, Refused NoCaret)
+typed editor text (Some caret) = typed_at editor text caret.place caret.occurrence
+
+-- of some stops the one of an occurrence, or else the last
+abbrev pub nearest : Option Stop → ℕ → List Stop → Option Stop
+nearest last occurrence [] = last
+nearest last occurrence (stop ∷ stops) = if stop.occurrence == occurrence then Some stop else nearest (Some stop) occurrence stops
+
+abbrev pub stands_for : CaretPlace → Stop → Bool
+stands_for place stop = elim stop.origin [ origin.At other ↦ is_same_place place other | origin.Fixed rule ↦ false ]
+
+abbrev pub standing_at : Option Stop → Standing
+standing_at None = Hidden
+standing_at (Some stop) = Shown stop.page stop.line stop.column
+
+abbrev pub standing_in : Caret → Option (List Stop) → Standing
+standing_in caret None = Hidden
+standing_in caret (Some stops) = standing_at (nearest None caret.occurrence (filter (stands_for caret.place) stops))
+
+-- where a caret stands, by the stops of the last show and the primitives since
+abbrev pub standing : Caret → Option (List Stop) → List Primitive → Standing
+standing caret stops [] = standing_in caret stops
+standing caret stops (prim ∷ since) = Stale
+
+-- `where`
+abbrev pub told : Editor → Option Caret → Editor × Reply
+told editor None = (editor, Refused NoCaret)
+told editor (Some caret) = (editor, Told caret.place (standing caret editor.stops editor.since))
+
+-- what a command makes of the editor, and what it is answered
+abbrev pub obeyed : Editor → Command → Editor × Reply
+obeyed editor command.Show = (shown editor, Plain (texts_of (view_runs editor.source)))
+obeyed editor (command.At page line column) = put_at editor page line column editor.stops
+obeyed editor (command.Typing text) = typed editor text editor.caret
+obeyed editor command.Where = told editor editor.caret
+obeyed editor command.Tree = (editor, Lines (canonical_text editor.names (document_of editor.source)))
+obeyed editor command.NotBuilt = (editor, Refused NotBuilt)
+
+-- what a command line makes of the editor, and what it is answered
+abbrev pub step : Editor → List ℕ → Editor × Reply
+step editor line = obeyed editor (command_of line)
 
 -- what a script is answered, command by command
-abbrev pub replies : Source → List (List ℕ) → List ℕ
-replies source script = flat_map (reply source) script
+abbrev pub replies : Editor → List (List ℕ) → List ℕ
+replies editor [] = []
+replies editor (line ∷ script) = reply_text (step editor line).1 ++ replies (step editor line).0 script

@@ -1,4 +1,9 @@
+pub mod Commands
 pub mod Editor
 pub mod Input
+pub mod Keystrokes
 pub mod Rows
+pub mod Runs
+pub mod Sound
+pub mod Stops
 pub mod Texts

@@ -1,9 +1,9 @@
--- Worked examples of the definitions: two inputs with what is answered to them, and three that are no input.
-use Rattle.std.specs.Prelude.{ℕ, List, [], ◌∷◌, ◌++◌}
+-- Worked examples of the definitions: two inputs with what is answered to them, three that are no input, and two scripts that type.
+use Rattle.std.specs.Prelude.{ℕ, List, [], ◌∷◌, ◌++◌, codes}
 use Rattle.tree_lines.specs.Written.{Written}
 use Rattle.tree_lines.specs.Written as written
 use Rattle.plain_editor.specs.Input.{document_head, script_head}
-use Rattle.plain_editor.specs.Editor.{show_word}
+use Rattle.plain_editor.specs.Commands.{show_word}
 
 -- `doc` and `Oak`
 abbrev pub doc : List ℕ
@@ -44,3 +44,25 @@ oak_doc = written.element doc (written.text oak written.end) written.end
 -- `plain` and a space; `plain Oak`
 abbrev pub plain : List ℕ → List ℕ
 plain text = 112 ∷ 108 ∷ 97 ∷ 105 ∷ 110 ∷ 32 ∷ (text ++ (10 ∷ []))
+
+-- a script that types at the end of the text, and what it is answered; one that types twice into the empty element
+abbrev pub types_at_end : List (List ℕ)
+types_at_end = codes "at 1 1 3" ∷ show_word ∷ codes "at 1 1 3" ∷ codes "type s" ∷ codes "at 2 1 0" ∷ codes "type x" ∷ show_word ∷ []
+
+abbrev pub typed_at_end : List ℕ
+typed_at_end = text_of_lines (codes "refused no-view" ∷ codes "plain Oak" ∷ codes "ok" ∷ codes "ok" ∷ codes "refused no-place" ∷ codes "ok" ∷ codes "plain Oaksx" ∷ [])
+
+abbrev pub types_into : List (List ℕ)
+types_into = codes "type a" ∷ show_word ∷ codes "at 1 1 0" ∷ codes "type a" ∷ codes "at 1 1 0" ∷ codes "type b" ∷ show_word ∷ codes "at 1 1 3" ∷ codes "nowhere" ∷ []
+
+abbrev pub typed_into : List ℕ
+typed_into =
+    text_of_lines (codes "refused no-caret" ∷ codes "plain " ∷ codes "ok" ∷ codes "ok" ∷ codes "ok" ∷ codes "ok" ∷ codes "plain ba" ∷ codes "refused no-place" ∷ codes "refused not-built" ∷ [])
+
+-- a script that asks where the caret is and for the source, and what it is answered
+abbrev pub asks : List (List ℕ)
+asks = codes "where" ∷ show_word ∷ codes "at 1 1 0" ∷ codes "where" ∷ codes "type a" ∷ codes "where" ∷ codes "source" ∷ show_word ∷ codes "where" ∷ []
+
+abbrev pub told_what_it_asks : List ℕ
+told_what_it_asks =
+    text_of_lines (codes "refused no-caret" ∷ codes "plain " ∷ codes "ok" ∷ codes "caret 1 into 1 1 0" ∷ codes "ok" ∷ codes "caret 2 1 stale" ∷ codes "(doc" ∷ codes "-a" ∷ codes ")doc" ∷ codes "plain a" ∷ codes "caret 2 1 1 1 1" ∷ [])

@@ -4,4 +4,7 @@
 
 mod laws;
 
-pub use laws::{names_do_not_show, one_reading, view_is_the_written_text, worked_examples};
+pub use laws::{
+    a_refusal_changes_nothing, each_step_is_sound, names_do_not_show, one_reading,
+    runs_say_the_text, typing_changes_one_place, view_is_the_written_text, worked_examples,
+};

@@ -1,3 +1,4 @@
 pub mod Content
 pub mod Names
 pub mod Tape
+pub mod Texts

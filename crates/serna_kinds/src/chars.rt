@@ -1,4 +1,4 @@
-ghost use Rattle.std.specs.Prelude.{◌≡◌, [], IfOk};
+ghost use Rattle.std.specs.Prelude.{◌≡◌, [], IfOk, OnOk, OnErr};
 ghost use Rattle.std.specs.Str.{chars};
 ghost use Rattle.std.specs.String.{string_bytes};
 
@@ -23,6 +23,7 @@ impl Model for Chars {
 
 impl Chars {
     ghost use Rattle.std.specs.Prelude.{encode_utf8_all};
+    ghost use Rattle.serna_kinds.specs.Texts.{IsPlaceIn, inserted};
 
     /// The text without characters. Takes no memory.
     pub fn new(alloc: Global) -> Chars
@@ -62,5 +63,14 @@ impl Chars {
     {
         let text = self.text.clone()?;
         Ok(Chars { text })
+    }
+
+    /// Puts a piece in at a place, in bytes. After an error the text is as before.
+    pub fn insert(&mut self, at: usize, piece: &Chars) -> Result<(), AllocError>
+        requires { IsPlaceIn self.old at }
+        ensures ok { OnOk result (self.new ≡ inserted at piece.now self.old) }
+        ensures err { OnErr result (self.new ≡ self.old) }
+    {
+        self.text.insert_str(at, piece.as_text())
     }
 }

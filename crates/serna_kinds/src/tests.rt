@@ -60,7 +60,9 @@ fn copies_a_test(rt: HostRuntime) -> Result<(), Fail> {
 
 #[test]
 fn holds_characters(rt: HostRuntime) -> Result<(), Fail> {
-    let text = Chars::from_text(rt.alloc(), "ß")?;
-    assert!(rt; text.copy()?.as_text() == "ß");
+    let mut text = Chars::from_text(rt.alloc(), "ß")?;
+    let piece = text.copy()?;
+    text.insert(0, &piece)?;
+    assert!(rt; text.as_text() == "ßß");
     Ok(())
 }

@@ -1,41 +1,31 @@
 -- How an input is answered, from how its script was run and how the run was closed.
-use Rattle.std.proofs.Common.{◌≡◌, ℕ, ◌≤◌, ◌<◌, List, [], ◌∷◌, ◌++◌, Option, Some, None, IfSome, inl, inr, length, bytes_eq, encode_utf8_all, if◌then◌else◌, refl, sym, ap, ◌∙◌, subst, arith, length-append}
+use Rattle.std.proofs.Common.{◌≡◌, ℕ, ◌≤◌, ◌<◌, List, [], ◌++◌, Option, Some, None, IfSome, inl, inr, length, refl, sym, ap, ◌∙◌, subst, arith, length-append}
 use Rattle.std.proofs.lemmas.Bool.{cases_lt}
 use Rattle.std.proofs.lemmas.List.{append-nil}
 use Rattle.tree_lines.specs.Written.{Written}
-use Rattle.source_model.specs.Source.{Source}
-use Rattle.source_model.specs.PlainText.{view_text}
 use Rattle.serna_outside.specs.Outside.{Appends, Consumes, IsAtEnd, Rose}
 use Rattle.plain_editor.specs.Input.{IsInput}
-use Rattle.plain_editor.specs.Editor.{start, reply, replies, show_word, refused_not_built}
+use Rattle.plain_editor.specs.Editor.{names_of, start, opened, replies}
 use Rattle.plain_editor.proofs.Readings.{one_reading}
 use Rattle.serna_main.specs.declared.status.Status.{Status}
 use Rattle.serna_main.specs.declared.status.Status.TheVariants as status
 use Rattle.serna_main.specs.Outside.{AppendsFront}
-use Rattle.serna_main.specs.Out.{refusal, IsRefused, IsOut, IsAnswered, IsClosed}
+use Rattle.serna_main.specs.Out.{refusal, IsRefused, IsReplied, IsAnswered, IsClosed}
 use Rattle.serna_main.proofs.Bytes.{front_all}
 
--- sources whose views have one text are answered alike
-reply-same : (a b : Source) → view_text a ≡ view_text b → (line : List ℕ) → reply a line ≡ reply b line
-reply-same a b same line = ap (λ t. if bytes_eq line show_word then (112 ∷ 108 ∷ 97 ∷ 105 ∷ 110 ∷ 32 ∷ []) ++ (encode_utf8_all t ++ 10 ∷ []) else refused_not_built) same
-
-pub replies-same : (a b : Source) → view_text a ≡ view_text b → (script : List (List ℕ)) → replies a script ≡ replies b script
-replies-same a b same [] = refl
-replies-same a b same (line ∷ script) = ap (λ r. r ++ replies a script) (reply-same a b same line) ∙ ap (λ rs. reply b line ++ rs) (replies-same a b same script)
-
 -- what is a front of the replies to one reading is a front of whatever is out for the input
-pub front_accepted : (input : List ℕ) (d : Written) (s : List (List ℕ)) (h h₁ : Option (List ℕ)) → IsInput input d s → AppendsFront h h₁ (replies (start d) s) →
-    (bytes : List ℕ) (other : Status) → IsOut input bytes other → AppendsFront h h₁ bytes
+pub front_accepted : (input : List ℕ) (d : Written) (s : List (List ℕ)) (h h₁ : Option (List ℕ)) → IsInput input d s → AppendsFront h h₁ (replies (opened (names_of d) (start d)) s) →
+    (bytes : List ℕ) (other : Status) → IsReplied input bytes other → AppendsFront h h₁ bytes
 front_accepted input d s h h₁ is f bytes status.Ok out =
     let same = one_reading input d out.0 s out.1 is out.2 in
-    subst (AppendsFront h h₁) (sym (out.3 ∙ ap (λ e. replies (start e) out.1) (sym same.0) ∙ ap (replies (start d)) (sym same.1))) f
+    subst (AppendsFront h h₁) (sym (out.3 ∙ ap (λ e. replies (opened (names_of e) (start e)) out.1) (sym same.0) ∙ ap (replies (opened (names_of d) (start d))) (sym same.1))) f
 front_accepted input d s h h₁ is f bytes status.InputRefused out = absurd (out.0 d s is)
 front_accepted input d s h h₁ is f bytes status.BadWords out = absurd out
 front_accepted input d s h h₁ is f bytes status.ReadFault out = absurd out
 front_accepted input d s h h₁ is f bytes status.WriteFault out = absurd out
 front_accepted input d s h h₁ is f bytes status.NoMemory out = absurd out
 
-pub front_refused : (input : List ℕ) (h h₁ : Option (List ℕ)) → IsRefused input → AppendsFront h h₁ refusal → (bytes : List ℕ) (other : Status) → IsOut input bytes other → AppendsFront h h₁ bytes
+pub front_refused : (input : List ℕ) (h h₁ : Option (List ℕ)) → IsRefused input → AppendsFront h h₁ refusal → (bytes : List ℕ) (other : Status) → IsReplied input bytes other → AppendsFront h h₁ bytes
 front_refused input h h₁ is f bytes status.Ok out = absurd (is out.0 out.1 out.2)
 front_refused input h h₁ is f bytes status.InputRefused out = subst (AppendsFront h h₁) (sym out.1) f
 front_refused input h h₁ is f bytes status.BadWords out = absurd out
@@ -45,10 +35,10 @@ front_refused input h h₁ is f bytes status.NoMemory out = absurd out
 
 -- a script that was answered whole, and closed
 pub answered_ok : (input : List ℕ) (d : Written) (s : List (List ℕ)) (h h₁ : Option (List ℕ)) (f f₁ : ℕ) (finished : Type 0) (ended : Status) → IsInput input d s →
-    Appends h h₁ (replies (start d) s) → IsClosed status.Ok ended f f₁ finished → IsAnswered input ended h h₁ f f₁ finished
+    Appends h h₁ (replies (opened (names_of d) (start d)) s) → IsClosed status.Ok ended f f₁ finished → IsAnswered input ended h h₁ f f₁ finished
 answered_ok input d s h h₁ f f₁ finished status.Ok is written closed = record {
-  out = λ w. (replies (start d) s, (d, s, is, refl), written);
-  front = front_accepted input d s h h₁ is (front_all h h₁ (replies (start d) s) written);
+  out = λ w. (replies (opened (names_of d) (start d)) s, (d, s, is, refl), written);
+  front = front_accepted input d s h h₁ is (front_all h h₁ (replies (opened (names_of d) (start d)) s) written);
   closed = λ e. closed.0;
   kept = λ e. closed.1;
   write_fault = λ e. cc;
@@ -57,7 +47,7 @@ answered_ok input d s h h₁ f f₁ finished status.Ok is written closed = recor
 }
 answered_ok input d s h h₁ f f₁ finished status.WriteFault is written closed = record {
   out = λ w. absurd w;
-  front = front_accepted input d s h h₁ is (front_all h h₁ (replies (start d) s) written);
+  front = front_accepted input d s h h₁ is (front_all h h₁ (replies (opened (names_of d) (start d)) s) written);
   closed = λ e. cc;
   kept = λ e. cc;
   write_fault = λ e. closed;
@@ -71,7 +61,7 @@ answered_ok input d s h h₁ f f₁ finished status.NoMemory is written closed =
 
 -- a run that want of memory ended
 pub answered_no_memory : (input : List ℕ) (h h₁ : Option (List ℕ)) (f f₁ : ℕ) (finished : Type 0) (ended : Status) →
-    ((bytes : List ℕ) (other : Status) → IsOut input bytes other → AppendsFront h h₁ bytes) → ended ≡ status.NoMemory → IsAnswered input ended h h₁ f f₁ finished
+    ((bytes : List ℕ) (other : Status) → IsReplied input bytes other → AppendsFront h h₁ bytes) → ended ≡ status.NoMemory → IsAnswered input ended h h₁ f f₁ finished
 answered_no_memory input h h₁ f f₁ finished ended front is =
     subst (λ e. IsAnswered input e h h₁ f f₁ finished) (sym is) (record {
       out = λ w. absurd w;
@@ -85,7 +75,7 @@ answered_no_memory input h h₁ f f₁ finished ended front is =
 
 -- a run that a failed write ended
 pub answered_write_fault : (input : List ℕ) (h h₁ : Option (List ℕ)) (f f₁ : ℕ) (finished : Type 0) →
-    ((bytes : List ℕ) (other : Status) → IsOut input bytes other → AppendsFront h h₁ bytes) → Rose f f₁ → IsAnswered input status.WriteFault h h₁ f f₁ finished
+    ((bytes : List ℕ) (other : Status) → IsReplied input bytes other → AppendsFront h h₁ bytes) → Rose f f₁ → IsAnswered input status.WriteFault h h₁ f f₁ finished
 answered_write_fault input h h₁ f f₁ finished front rose = record {
   out = λ w. absurd w;
   front = front;
@@ -126,8 +116,8 @@ whole_of bytes input rest is at_end = elim (cases_lt 16384 (length bytes)) [
   | inr short ↦ read_whole (is ∙ ap (λ r. bytes ++ r) (at_end short) ∙ append-nil bytes)
 ]
 
-out_whole : (bytes input : List ℕ) (ended : Status) (h h₁ : Option (List ℕ)) → Whole bytes input → ((b : List ℕ) × IsOut bytes b ended × Appends h h₁ b) → (b : List ℕ) × IsOut input b ended × Appends h h₁ b
-out_whole bytes input ended h h₁ (read_whole is) out = (out.0, subst (λ i. IsOut i out.0 ended) (sym is) out.1, out.2)
+out_whole : (bytes input : List ℕ) (ended : Status) (h h₁ : Option (List ℕ)) → Whole bytes input → ((b : List ℕ) × IsReplied bytes b ended × Appends h h₁ b) → (b : List ℕ) × IsReplied input b ended × Appends h h₁ b
+out_whole bytes input ended h h₁ (read_whole is) out = (out.0, subst (λ i. IsReplied i out.0 ended) (sym is) out.1, out.2)
 out_whole bytes input status.Ok h h₁ (too_long long longer) out = let short = out.1.2.short in absurd (omega arith)
 out_whole bytes input status.InputRefused h h₁ (too_long long longer) out = (out.0, ((λ d s is. let short = is.short in absurd (omega arith)), out.1.1), out.2)
 out_whole bytes input status.BadWords h h₁ (too_long long longer) out = absurd out.1
@@ -135,8 +125,8 @@ out_whole bytes input status.ReadFault h h₁ (too_long long longer) out = absur
 out_whole bytes input status.WriteFault h h₁ (too_long long longer) out = absurd out.1
 out_whole bytes input status.NoMemory h h₁ (too_long long longer) out = absurd out.1
 
-front_whole : (bytes input : List ℕ) (h h₁ : Option (List ℕ)) → Whole bytes input → ((b : List ℕ) (other : Status) → IsOut bytes b other → AppendsFront h h₁ b) → (b : List ℕ) (other : Status) → IsOut input b other → AppendsFront h h₁ b
-front_whole bytes input h h₁ (read_whole is) front b other out = front b other (subst (λ i. IsOut i b other) is out)
+front_whole : (bytes input : List ℕ) (h h₁ : Option (List ℕ)) → Whole bytes input → ((b : List ℕ) (other : Status) → IsReplied bytes b other → AppendsFront h h₁ b) → (b : List ℕ) (other : Status) → IsReplied input b other → AppendsFront h h₁ b
+front_whole bytes input h h₁ (read_whole is) front b other out = front b other (subst (λ i. IsReplied i b other) is out)
 front_whole bytes input h h₁ (too_long long longer) front b status.Ok out = let short = out.2.short in absurd (omega arith)
 front_whole bytes input h h₁ (too_long long longer) front b status.InputRefused out = front b status.InputRefused ((λ d s is. let short = is.short in absurd (omega arith)), out.1)
 front_whole bytes input h h₁ (too_long long longer) front b status.BadWords out = absurd out
@@ -145,17 +135,17 @@ front_whole bytes input h h₁ (too_long long longer) front b status.WriteFault 
 front_whole bytes input h h₁ (too_long long longer) front b status.NoMemory out = absurd out
 
 pub out_of_left : (left left₁ : Option (List ℕ)) (bytes : List ℕ) (ended : Status) (h h₁ : Option (List ℕ)) → Consumes left left₁ bytes → (length bytes ≤ 16384 → IsAtEnd left₁) →
-    ((b : List ℕ) × IsOut bytes b ended × Appends h h₁ b) → IfSome left (λ input. (b : List ℕ) × IsOut input b ended × Appends h h₁ b)
+    ((b : List ℕ) × IsReplied bytes b ended × Appends h h₁ b) → IfSome left (λ input. (b : List ℕ) × IsReplied input b ended × Appends h h₁ b)
 out_of_left None left₁ bytes ended h h₁ consumed at_end out = tt
 out_of_left (Some input) None bytes ended h h₁ consumed at_end out = absurd consumed
 out_of_left (Some input) (Some rest) bytes ended h h₁ consumed at_end out = out_whole bytes input ended h h₁ (whole_of bytes input rest consumed at_end) out
 
 pub front_of_left : (left left₁ : Option (List ℕ)) (bytes : List ℕ) (h h₁ : Option (List ℕ)) → Consumes left left₁ bytes → (length bytes ≤ 16384 → IsAtEnd left₁) →
-    ((b : List ℕ) (other : Status) → IsOut bytes b other → AppendsFront h h₁ b) → IfSome left (λ input. (b : List ℕ) (other : Status) → IsOut input b other → AppendsFront h h₁ b)
+    ((b : List ℕ) (other : Status) → IsReplied bytes b other → AppendsFront h h₁ b) → IfSome left (λ input. (b : List ℕ) (other : Status) → IsReplied input b other → AppendsFront h h₁ b)
 front_of_left None left₁ bytes h h₁ consumed at_end front = tt
 front_of_left (Some input) None bytes h h₁ consumed at_end front = absurd consumed
 front_of_left (Some input) (Some rest) bytes h h₁ consumed at_end front = front_whole bytes input h h₁ (whole_of bytes input rest consumed at_end) front
 
 -- an input that was answered with Ok was read whole
-pub end_of_left : (left left₁ : Option (List ℕ)) (bytes : List ℕ) (h h₁ : Option (List ℕ)) → (length bytes ≤ 16384 → IsAtEnd left₁) → ((b : List ℕ) × IsOut bytes b status.Ok × Appends h h₁ b) → IsAtEnd left₁
+pub end_of_left : (left left₁ : Option (List ℕ)) (bytes : List ℕ) (h h₁ : Option (List ℕ)) → (length bytes ≤ 16384 → IsAtEnd left₁) → ((b : List ℕ) × IsReplied bytes b status.Ok × Appends h h₁ b) → IsAtEnd left₁
 end_of_left left left₁ bytes h h₁ at_end out = at_end out.1.2.short

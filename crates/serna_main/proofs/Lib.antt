@@ -1,5 +1,5 @@
 pub mod Bytes
 pub mod Replies
-pub mod Texts
 pub mod Splitting
 pub mod Answered
+pub mod Words

@@ -2,5 +2,4 @@ pub mod Lines
 pub mod Out
 pub mod Outside
 pub mod Status
-pub mod View
 pub mod Sections

@@ -1,32 +1,58 @@
 -- What the program writes for an input, and the status that it ends with (this project's own).
-use Rattle.std.specs.Prelude.{◌≡◌, ℕ, List, [], ◌∷◌, Option}
+use Rattle.std.specs.Prelude.{◌≡◌, ◌≢◌, ℕ, List, [], ◌∷◌, ◌++◌, Option, codes}
 use Rattle.tree_lines.specs.Written.{Written}
 use Rattle.plain_editor.specs.Input.{IsInput}
-use Rattle.plain_editor.specs.Editor.{start, replies}
+use Rattle.plain_editor.specs.Editor.{names_of, start, opened, replies}
 use Rattle.serna_outside.specs.Outside.{Appends, Rose}
 use Rattle.serna_main.specs.Outside.{AppendsFront}
 use Rattle.serna_main.specs.declared.status.Status.{Status}
 use Rattle.serna_main.specs.declared.status.Status.TheVariants as status
 
--- `input refused 1 NotBuilt`
+-- the line that refuses an input
 abbrev pub refusal : List ℕ
-refusal =
-    105 ∷ 110 ∷ 112 ∷ 117 ∷ 116 ∷ 32 ∷ 114 ∷ 101 ∷ 102 ∷ 117 ∷ 115 ∷ 101 ∷ 100 ∷ 32 ∷ 49 ∷ 32 ∷ 78 ∷ 111 ∷ 116 ∷ 66 ∷ 117 ∷ 105 ∷ 108 ∷ 116 ∷ 10 ∷ []
+refusal = codes "input refused 1 NotBuilt" ++ (10 ∷ [])
+
+-- the line that refuses the words of the command line
+abbrev pub words_refusal : List ℕ
+words_refusal = codes "words refused" ++ (10 ∷ [])
+
+-- the input is a document of the built form and a script
+abbrev pub IsAccepted : List ℕ → Type 0
+IsAccepted input = (document : Written) × (script : List (List ℕ)) × IsInput input document script
 
 -- no document and script are this input
 abbrev pub IsRefused : List ℕ → Type 0
 IsRefused input = (document : Written) (script : List (List ℕ)) → IsInput input document script → ⊥
 
--- an accepted input is answered command by command, and every other one is refused
-abbrev pub IsOut : List ℕ → List ℕ → Status → Type 0
-IsOut input bytes status.Ok = (document : Written) × (script : List (List ℕ)) × IsInput input document script × (bytes ≡ replies (start document) script)
-IsOut input bytes status.InputRefused = IsRefused input × (bytes ≡ refusal)
-IsOut input bytes status.BadWords = ⊥
-IsOut input bytes status.ReadFault = ⊥
-IsOut input bytes status.WriteFault = ⊥
-IsOut input bytes status.NoMemory = ⊥
+-- an accepted input is answered command by command, from the editor of its document on, and every other one is refused
+abbrev pub IsReplied : List ℕ → List ℕ → Status → Type 0
+IsReplied input bytes status.Ok =
+    (document : Written) × (script : List (List ℕ)) × IsInput input document script × (bytes ≡ replies (opened (names_of document) (start document)) script)
+IsReplied input bytes status.InputRefused = IsRefused input × (bytes ≡ refusal)
+IsReplied input bytes status.BadWords = ⊥
+IsReplied input bytes status.ReadFault = ⊥
+IsReplied input bytes status.WriteFault = ⊥
+IsReplied input bytes status.NoMemory = ⊥
+
+-- the empty list of words is accepted, and the input is answered; every other list is refused, whatever the input
+abbrev pub IsOut : {A : Type 0} → List A → List ℕ → List ℕ → Status → Type 0
+IsOut words input bytes status.Ok = (words ≡ []) × IsReplied input bytes status.Ok
+IsOut words input bytes status.BadWords = (words ≢ []) × (bytes ≡ words_refusal)
+IsOut words input bytes status.InputRefused = (words ≡ []) × IsReplied input bytes status.InputRefused
+IsOut words input bytes status.ReadFault = (words ≡ []) × IsReplied input bytes status.ReadFault
+IsOut words input bytes status.WriteFault = (words ≡ []) × IsReplied input bytes status.WriteFault
+IsOut words input bytes status.NoMemory = (words ≡ []) × IsReplied input bytes status.NoMemory
 
 -- the run was not ended by a fault or by want of memory
+abbrev pub IsEnded : Status → Type 0
+IsEnded status.Ok = Unit {0}
+IsEnded status.BadWords = Unit {0}
+IsEnded status.InputRefused = Unit {0}
+IsEnded status.ReadFault = ⊥
+IsEnded status.WriteFault = ⊥
+IsEnded status.NoMemory = ⊥
+
+-- the input was read and answered, with no fault and no want of memory
 abbrev pub IsWhole : Status → Type 0
 IsWhole status.Ok = Unit {0}
 IsWhole status.InputRefused = Unit {0}
@@ -37,8 +63,8 @@ IsWhole status.NoMemory = ⊥
 
 -- an input that was read is answered so: what the sink held and holds, its count of faults, and that it was finished
 pub record IsAnswered (input : List ℕ) (ended : Status) (held held₁ : Option (List ℕ)) (faults faults₁ : ℕ) (finished : Type 0) : Type 0 where
-  pub out : IsWhole ended → (bytes : List ℕ) × IsOut input bytes ended × Appends held held₁ bytes
-  pub front : (bytes : List ℕ) (other : Status) → IsOut input bytes other → AppendsFront held held₁ bytes
+  pub out : IsWhole ended → (bytes : List ℕ) × IsReplied input bytes ended × Appends held held₁ bytes
+  pub front : (bytes : List ℕ) (other : Status) → IsReplied input bytes other → AppendsFront held held₁ bytes
   pub closed : ended ≡ status.Ok → finished
   pub kept : ended ≡ status.Ok → faults₁ ≡ faults
   pub write_fault : ended ≡ status.WriteFault → Rose faults faults₁

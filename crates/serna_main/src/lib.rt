@@ -9,7 +9,6 @@ mod status;
 #[cfg(test)]
 mod tests;
 mod top;
-mod view;
 
 pub use status::Status;
 pub use top::serna_alone;

@@ -1,6 +1,5 @@
 ghost use Rattle.std.specs.Prelude.{◌≡◌, ◌+◌, ◌<◌, ◌≤◌, Some, None, IfOk, IfSome, IfNone, length, drop, map, position, bytes_eq, ◌==◌};
 ghost use Rattle.std.specs.List.{position_or_len};
-ghost use Rattle.source_tree.specs.Begun.{begun};
 ghost use Rattle.plain_editor.specs.Input.{lines_of, script_head};
 ghost use Rattle.serna_main.specs.Lines.{numbered_lines};
 ghost use Rattle.serna_main.specs.Out.{IsRefused};
@@ -16,9 +15,11 @@ const DOCUMENT_HEAD: &[u8] = b"!document";
 
 const SCRIPT_HEAD: &[u8] = b"!script";
 
-/// An accepted input: the source that its document begins, its lines, and the place of the script's first line.
+/// An accepted input: the table of its document's names, the source that the document begins, its lines, and the place of
+/// the script's first line.
 #[derive(Debug, Drop)]
 pub(crate) struct Sections {
+    pub(crate) names: NameTable,
     pub(crate) source: SourceTree,
     pub(crate) lines: Vec<Line>,
     pub(crate) first: usize,
@@ -39,7 +40,8 @@ pub(crate) fn judge(alloc: Global, bytes: &[u8]) -> Result<Option<Sections>, NoM
     };
     match document_of(alloc, &lines[..script])? {
         None => Ok(None),
-        Some(source) => Ok(Some(Sections {
+        Some((names, source)) => Ok(Some(Sections {
+            names,
             source,
             lines,
             first: script + 1,
@@ -68,7 +70,7 @@ fn split_lines(alloc: Global, bytes: &[u8]) -> Result<Vec<Line>, NoMemory>
 }
 
 /// The number of bytes before the first LF, or of all bytes.
-fn line_len(bytes: &[u8]) -> usize
+pub(crate) fn line_len(bytes: &[u8]) -> usize
     ensures { result ≡ position_or_len (λ b. b == 10) bytes.now }
 {
     first_line_feed(bytes).unwrap_or(bytes.len())
@@ -105,9 +107,10 @@ fn is_head(line: &Line, head: &[u8]) -> bool
     line.bytes.as_slice() == head
 }
 
-/// The source that a document section begins: its head, and the lines of a document. None where it is none.
-fn document_of(alloc: Global, lines: &[Line]) -> Result<Option<SourceTree>, NoMemory>
-    ensures begun { IfOk result (λ found. IfSome found (λ source. Begins (map (λ line. line.bytes) lines.now) source)) }
+/// The table of names and the source that a document section begins: its head, and the lines of a document. None where it
+/// is none.
+fn document_of(alloc: Global, lines: &[Line]) -> Result<Option<(NameTable, SourceTree)>, NoMemory>
+    ensures begun { IfOk result (λ found. IfSome found (λ begun. Begins (map (λ line. line.bytes) lines.now) begun.0 begun.1)) }
     ensures none { IfOk result (λ found. IfNone found (IsNoDocument (map (λ line. line.bytes) lines.now))) }
 {
     let Some((head, rest)) = lines.split_first() else {
@@ -120,7 +123,7 @@ fn document_of(alloc: Global, lines: &[Line]) -> Result<Option<SourceTree>, NoMe
     match read_tree(alloc, rest, &mut names) {
         Ok(tree) => {
             let source = SourceTree::begin(alloc, &tree)?;
-            Ok(Some(source))
+            Ok(Some((names, source)))
         }
         Err(LineFault::NotBuilt) => Ok(None),
         Err(LineFault::NoMemory) => Err(AllocError),

@@ -13,9 +13,10 @@ struct Ran {
     held: Vec<u8>,
 }
 
-// A run over a source that gives at most so many bytes a read, where these calls of the source and of the sink fail.
+// A run with words, over a source that gives at most so many bytes a read, where these calls of the source and of the sink fail.
 fn run(
     alloc: Global,
+    words: &[String],
     input: &[u8],
     most: usize,
     failing_reads: &[u64],
@@ -28,7 +29,7 @@ fn run(
     let writes = Items::from_slice(alloc, failing_writes)?;
     let mut source = MemorySource::new(bytes, reads, most);
     let mut sink = MemorySink::new(alloc, writes, 64)?;
-    let status = serna_alone(alloc, &[], &mut source, &mut sink);
+    let status = serna_alone(alloc, words, &mut source, &mut sink);
     let held = Vec::from_slice(alloc, sink.held())?;
     Ok(Ran { status, held })
 }
@@ -54,19 +55,23 @@ impl Sink for OneByte {
 
 const TWICE: &[u8] = b"!document\n(doc\n-Oak\n)doc\n!script\nshow\nshow\n";
 
+const TYPED: &[u8] = b"!document\n(doc\n)doc\n!script\nshow\nat 1 1 0\ntype a\nwhere\nsource\n";
+
+const TOLD: &[u8] = b"plain \nok\nok\ncaret 2 1 stale\n(doc\n-a\n)doc\n";
+
 const CUT: &[u8] = b"!document\n(doc\n";
 
 const REFUSED: &[u8] = b"input refused 1 NotBuilt\n";
 
 #[test]
 fn answers(rt: HostRuntime) -> Result<(), Fail> {
-    let whole = run(rt.alloc(), TWICE, 64, &[], &[])?;
+    let whole = run(rt.alloc(), &[], TWICE, 64, &[], &[])?;
     assert_eq!(rt; whole.status, Status::Ok);
     assert_eq!(rt; whole.held.as_slice(), b"plain Oak\nplain Oak\n".as_slice());
-    let slow = run(rt.alloc(), TWICE, 1, &[], &[])?;
+    let slow = run(rt.alloc(), &[], TWICE, 1, &[], &[])?;
     assert_eq!(rt; slow.status, Status::Ok);
     assert_eq!(rt; slow.held.as_slice(), b"plain Oak\nplain Oak\n".as_slice());
-    let cut = run(rt.alloc(), CUT, 64, &[], &[2])?;
+    let cut = run(rt.alloc(), &[], CUT, 64, &[], &[2])?;
     assert_eq!(rt;
         cut.status,
         Status::InputRefused,
@@ -79,12 +84,12 @@ fn answers(rt: HostRuntime) -> Result<(), Fail> {
 #[test]
 fn faults(rt: HostRuntime) -> Result<(), Fail> {
     for call in 1..4u64 {
-        let ran = run(rt.alloc(), TWICE, 20, &[call], &[])?;
+        let ran = run(rt.alloc(), &[], TWICE, 20, &[call], &[])?;
         assert_eq!(rt; ran.status, Status::ReadFault, "at read {call}");
         assert_eq!(rt; ran.held.len(), 0);
     }
     for call in 1..4u64 {
-        let ran = run(rt.alloc(), TWICE, 64, &[], &[call])?;
+        let ran = run(rt.alloc(), &[], TWICE, 64, &[], &[call])?;
         assert_eq!(rt;
             ran.status,
             Status::WriteFault,
@@ -92,6 +97,34 @@ fn faults(rt: HostRuntime) -> Result<(), Fail> {
         );
         assert_eq!(rt; ran.held.len(), 10 * (call as usize - 1).min(2));
     }
+    Ok(())
+}
+
+#[test]
+fn lines_are_pieces(rt: HostRuntime) -> Result<(), Fail> {
+    let whole = run(rt.alloc(), &[], TYPED, 64, &[], &[])?;
+    assert_eq!(rt; whole.status, Status::Ok);
+    assert_eq!(rt; whole.held.as_slice(), TOLD);
+    let cut = run(rt.alloc(), &[], TYPED, 64, &[], &[6])?;
+    assert_eq!(rt; cut.status, Status::WriteFault);
+    assert_eq!(rt;
+        cut.held.as_slice(),
+        b"plain \nok\nok\ncaret 2 1 stale\n(doc\n".as_slice()
+    );
+    Ok(())
+}
+
+#[test]
+fn words(rt: HostRuntime) -> Result<(), Fail> {
+    let alloc = rt.alloc();
+    let mut words = Vec::new(alloc);
+    words.push(String::from_str(alloc, "x")?)?;
+    let refused = run(alloc, words.as_slice(), TWICE, 64, &[1], &[])?;
+    assert_eq!(rt; refused.status, Status::BadWords);
+    assert_eq!(rt; refused.held.as_slice(), b"words refused\n".as_slice());
+    let failed = run(alloc, words.as_slice(), TWICE, 64, &[], &[1])?;
+    assert_eq!(rt; failed.status, Status::WriteFault);
+    assert_eq!(rt; failed.held.len(), 0);
     Ok(())
 }
 

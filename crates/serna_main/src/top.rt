@@ -1,6 +1,8 @@
-ghost use Rattle.std.specs.Prelude.{◌≡◌, ◌≤◌, ℕ, List, IfSome, length};
+ghost use Rattle.std.specs.Prelude.{◌≡◌, ◌≢◌, ◌≤◌, ◌⊎◌, ℕ, List, [], IfSome, length};
 ghost use Rattle.serna_outside.specs.Outside.{Appends, IsAtEnd, Rose};
-ghost use Rattle.serna_main.specs.Out.{IsOut, IsWhole, IsAnswered, IsClosed, IsRefused, spoiled_status};
+ghost use Rattle.plain_editor.specs.Editor.{opened};
+ghost use Rattle.live_editor.specs.Held.{IsSomeSound};
+ghost use Rattle.serna_main.specs.Out.{IsOut, IsEnded, IsAccepted, IsAnswered, IsClosed, IsRefused, spoiled_status, words_refusal};
 ghost use Rattle.serna_main.specs.Sections.{IsJudged};
 ghost use Rattle.serna_main.specs.Outside.{AppendsFront};
 ghost use Rattle.serna_main.specs.declared.status.Status.{Status};
@@ -17,40 +19,79 @@ use std::alloc::Global;
 /// The line that refuses an input.
 const REFUSAL: &[u8] = b"input refused 1 NotBuilt\n";
 
+/// The line that refuses the words of the command line.
+const WORDS_REFUSAL: &[u8] = b"words refused\n";
+
 /// Runs the program: reads an input, and writes the replies to its script, or the one line that refuses it.
 ///
-/// `words` are the words of the command line, without the program's name. They are not looked at yet.
+/// `words` are the words of the command line, without the program's name. The empty list alone is accepted so far: with
+/// every other one the source is not read, and one line refuses the words. Each line of a reply is offered to the sink as one
+/// piece.
+///
+/// The run ends with
+/// - `Ok`: all replies were written, and the sink was finished;
+/// - `BadWords`: the line `words refused` was written;
+/// - `InputRefused`: the line `input refused 1 NotBuilt` was written;
+/// - `ReadFault`: the source failed, and nothing was written;
+/// - `WriteFault`: the sink failed, and a front of what was to be written is written;
+/// - `NoMemory`: there was no memory, and a front of what was to be written is written.
 pub fn serna_alone<S: Source, K: Sink>(
     alloc: Global,
     words: &[String],
     source: &mut S,
     sink: &mut K,
 ) -> Status
-    // Where no fault and no want of memory ended the run, the bytes written are those of the input.
-    ensures out { IsWhole result → IfSome (S.left source.old) (λ input.
-        (bytes : List ℕ) × IsOut input bytes result × Appends (K.held sink.old) (K.held sink.new) bytes) }
+    // Where no fault and no want of memory ended the run, the bytes written are those of the words and the input.
+    ensures out { IsEnded result → IfSome (S.left source.old) (λ input.
+        (bytes : List ℕ) × IsOut words.now input bytes result × Appends (K.held sink.old) (K.held sink.new) bytes) }
 
     // Whatever the status, what was written is a front of those bytes.
-    ensures front { IfSome (S.left source.old) (λ input. (bytes : List ℕ) (ended : Status) → IsOut input bytes ended →
+    ensures front { IfSome (S.left source.old) (λ input. (bytes : List ℕ) (ended : Status) → IsOut words.now input bytes ended →
         AppendsFront (K.held sink.old) (K.held sink.new) bytes) }
 
-    // Ok comes only where the input was read to its end, the sink was finished, and neither count of faults rose.
+    // Ok comes only where the input was read to its end, the sink was finished, and neither count of faults rose; the
+    // source's count stays where words or input are refused, too.
     ensures end { result ≡ status.Ok → IsAtEnd (S.left source.new) }
     ensures finished { result ≡ status.Ok → K.is_finished sink.new }
-    ensures kept_source { IsWhole result → S.faults source.new ≡ S.faults source.old }
+    ensures kept_source { IsEnded result → S.faults source.new ≡ S.faults source.old }
     ensures kept_sink { result ≡ status.Ok → K.faults sink.new ≡ K.faults sink.old }
 
     // A fault comes only where its count rose. After a read fault nothing was written.
     ensures read_fault { result ≡ status.ReadFault → Rose (S.faults source.old) (S.faults source.new) }
     ensures read_nothing { result ≡ status.ReadFault → K.held sink.new ≡ K.held sink.old }
     ensures write_fault { result ≡ status.WriteFault → Rose (K.faults sink.old) (K.faults sink.new) }
-    ensures words { result ≡ status.BadWords → ⊥ }
+
+    // Words are refused where there are some, also where the source does not tell its bytes: before it is read.
+    ensures bad_words { result ≡ status.BadWords → (words.now ≢ []) × Appends (K.held sink.old) (K.held sink.new) words_refusal }
+    ensures words_first { words.now ≢ [] → (result ≡ status.BadWords) ⊎ (result ≡ status.WriteFault) }
+    ensures unread { words.now ≢ [] → (S.left source.new ≡ S.left source.old) × (S.faults source.new ≡ S.faults source.old) }
+
+    // An accepted input is answered whole where no count of faults rose, but for want of memory.
+    ensures complete { words.now ≡ [] → IfSome (S.left source.old) (λ input. IsAccepted input →
+        (Rose (S.faults source.old) (S.faults source.new) → ⊥) × (Rose (K.faults sink.old) (K.faults sink.new) → ⊥) →
+        (result ≡ status.Ok) ⊎ (result ≡ status.NoMemory)) }
 {
-    let _ = words;
+    if !words.is_empty() {
+        return refuse_words(sink);
+    }
     match read_input(alloc, source) {
         Err(ReadError::Failed) => close(sink, Status::ReadFault),
         Err(ReadError::NoMemory) => close(sink, Status::NoMemory),
         Ok(bytes) => answer(alloc, bytes.as_slice(), sink),
+    }
+}
+
+/// Writes the line that refuses the words.
+fn refuse_words<K: Sink>(sink: &mut K) -> Status
+    ensures refused { result ≡ status.BadWords → Appends (K.held sink.old) (K.held sink.new) words_refusal }
+    ensures front { AppendsFront (K.held sink.old) (K.held sink.new) words_refusal }
+    ensures write_fault { result ≡ status.WriteFault → Rose (K.faults sink.old) (K.faults sink.new) }
+    ensures only { (result ≡ status.BadWords) ⊎ (result ≡ status.WriteFault) }
+{
+    if offer(sink, WORDS_REFUSAL) {
+        close(sink, Status::BadWords)
+    } else {
+        Status::WriteFault
     }
 }
 
@@ -61,7 +102,7 @@ fn answer<K: Sink>(alloc: Global, input: &[u8], sink: &mut K) -> Status
     match judge(alloc, input) {
         Err(_) => close(sink, Status::NoMemory),
         Ok(None) => refuse(sink),
-        Ok(Some(sections)) => obey(alloc, &sections, sink),
+        Ok(Some(sections)) => obey(alloc, sections, sink),
     }
 }
 
@@ -77,12 +118,18 @@ fn refuse<K: Sink>(sink: &mut K) -> Status
 }
 
 /// Answers the script of an accepted input.
-fn obey<K: Sink>(alloc: Global, sections: &Sections, sink: &mut K) -> Status
-    requires { sections.now.first ≤ length sections.now.lines.items }
-    ensures { (input : List ℕ) → IsJudged input sections.now → IsAnswered input result (K.held sink.old) (K.held sink.new) (K.faults sink.old) (K.faults sink.new) (K.is_finished sink.new) }
+fn obey<K: Sink>(alloc: Global, sections: Sections, sink: &mut K) -> Status
+    requires within { sections.first ≤ length sections.lines.items }
+    requires sound { IsSomeSound (opened sections.names sections.source) }
+    ensures { (input : List ℕ) → IsJudged input sections → IsAnswered input result (K.held sink.old) (K.held sink.new) (K.faults sink.old) (K.faults sink.new) (K.is_finished sink.new) }
 {
-    let script = &sections.lines[sections.first..];
-    match run_script(alloc, &sections.source, script, sink) {
+    let Sections {
+        names,
+        source,
+        lines,
+        first,
+    } = sections;
+    match run_script(alloc, names, source, &lines[first..], sink) {
         Status::Ok => close(sink, Status::Ok),
         Status::NoMemory => close(sink, Status::NoMemory),
         Status::WriteFault => Status::WriteFault,

@@ -1,4 +1,5 @@
 pub mod Cells
+pub mod Changes
 pub mod Codes
 pub mod PlainText
 pub mod Proper

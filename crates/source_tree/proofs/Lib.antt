@@ -1,3 +1,10 @@
 pub mod Planting
+pub mod Around
+pub mod Stored
 pub mod Numbering
 pub mod Planted
+pub mod Applied
+pub mod ProperKept
+pub mod Undone
+pub mod Small
+pub mod TextWritten

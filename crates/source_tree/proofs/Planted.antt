@@ -1,11 +1,9 @@
 -- The arena of a tree stands for the source that the tree begins, and this source is proper.
-use Rattle.std.proofs.Common.{◌≡◌, ℕ, zero, suc, ◌+◌, ◌-◌, ◌*◌, ◌<◌, ◌≤◌, inl, inr, List, [], ◌∷◌, ◌++◌, map, length, max, Option, Some, None, slice_get, set, get_or, refl, sym, ap, ◌∙◌, subst, arith, append_assoc, length-append}
+use Rattle.std.proofs.Common.{◌≡◌, ℕ, zero, suc, ◌+◌, ◌-◌, ◌*◌, ◌<◌, ◌≤◌, inl, inr, List, [], ◌∷◌, ◌++◌, map, length, max, Some, None, slice_get, set, get_or, refl, sym, ap, ◌∙◌, subst, arith, append_assoc, length-append}
 use Rattle.std.proofs.lemmas.Bool.{cases_lt}
 use Rattle.std.proofs.lemmas.List.{append-nil, length_push}
-use Rattle.std.proofs.lemmas.Option.{slice_get_past}
 use Rattle.std.specs.List.{AllByRecursion}
 use Rattle.serna_kinds.specs.declared.cells.NodeName.{NodeName}
-use Rattle.serna_kinds.specs.declared.cells.Cell.{Cell}
 use Rattle.serna_kinds.specs.Names.{NameParts}
 use Rattle.tree_lines.specs.declared.tree.TreeItem.{TreeItem}
 use Rattle.tree_lines.specs.declared.tree.TreeItem.TheVariants as item
@@ -14,25 +12,17 @@ use Rattle.tree_lines.specs.Given as given
 use Rattle.tree_lines.specs.Tokens.{without_line, IsNamed}
 use Rattle.source_model.specs.Source.{Body, Forest, Source, numbers}
 use Rattle.source_model.specs.Source as source
-use Rattle.source_model.specs.Cells.{Spot, named, or_else, spot_in, cell_of}
+use Rattle.source_model.specs.Cells.{named}
 use Rattle.source_model.specs.Proper.{uses, depth_of, AreAttributes, AreNodes, BeginsNoText, IsTop, IsProper}
 use Rattle.source_tree.specs.Begun.{numbered, begun}
 use Rattle.source_tree.specs.declared.node.Node.{Node}
 use Rattle.source_tree.specs.declared.node.NodeBody.TheVariants as stored
-use Rattle.source_tree.specs.Arena.{body_of, stored_cell, sprout, siblings, forest_of, source_of, IsArena, heads, nodes_of, arena_of, leaf}
+use Rattle.source_tree.specs.Arena.{source_of, IsArena, AreStored, AreLeaves, heads, nodes_of, arena_of, leaf}
 use Rattle.source_tree.specs.Growing.{EndsHere, IsPlanted, PlantsAll}
 use Rattle.source_tree.proofs.Planting.{length-nodes_of}
-use Rattle.source_tree.proofs.Numbering.{at_other, count_same, count_other, IsSpotOf, facets_of, slice_get_at, spot_in-numbered, spot_in-outside, uses-numbered, uses-outside, numbers-numbered}
-
--- the arena reads back as the tree
-forest_of-nil : (nodes : List Node) (left : ℕ) → forest_of nodes left [] ≡ source.none
-unfolding forest_of
-forest_of-nil nodes zero = refl
-forest_of-nil nodes (suc left) = refl
-
-forest_of-suc : (nodes : List Node) (left : ℕ) (ks : List NodeName) → forest_of nodes (suc left) ks ≡ siblings nodes (forest_of nodes left) ks
-unfolding forest_of
-forest_of-suc nodes left ks = refl
+use Rattle.source_tree.proofs.Around.{count_same, count_other}
+use Rattle.source_tree.proofs.Stored.{reads_tree, arena_stored}
+use Rattle.source_tree.proofs.Numbering.{slice_get_at, uses-numbered, uses-outside, uses-within, numbers-numbered}
 
 -- the arena has these nodes from place k on
 pub record StandsAt (nodes : List Node) (k : ℕ) (part : List Node) : Type 0 where
@@ -68,95 +58,83 @@ stands_right nodes k n xs ys size s = record {
   place = omega (arith, length-append s.before xs, s.place, size);
 }
 
-sprout-some : (below : List NodeName → Forest) (k : ℕ) (o : Option Node) (node : Node) (rest : Forest) → o ≡ Some node → sprout below k o rest ≡ source.node k (body_of node.body) (below node.kids) rest
-sprout-some below k o node rest e = ap (λ p. sprout below k p rest) e
-
-pub forest_of-nodes_of : (g : Given) (nodes : List Node) (k left : ℕ) (up : NodeName) → StandsAt nodes k (nodes_of k up g) → given.depth_of g ≤ left → forest_of nodes (suc left) (heads k g) ≡ numbered k g
-forest_of-nodes_of given.end nodes k left up s d = forest_of-suc nodes left []
-forest_of-nodes_of (given.text t rest) nodes k left up s d =
-    let later : forest_of nodes (suc left) (heads (k + 1) rest) ≡ numbered (k + 1) rest =
-    forest_of-nodes_of rest nodes (k + 1) left up (stands_rest nodes k (leaf (stored.Text t) up) (nodes_of (k + 1) up rest) s) d in
-    forest_of-suc nodes left (heads k (given.text t rest))
-    ∙ sprout-some (forest_of nodes left) k (slice_get nodes k) (leaf (stored.Text t) up) (siblings nodes (forest_of nodes left) (heads (k + 1) rest)) (stands_first nodes k (leaf (stored.Text t) up) (nodes_of (k + 1) up rest) s)
-    ∙ ap (λ f. source.node k (source.Text t) f (siblings nodes (forest_of nodes left) (heads (k + 1) rest))) (forest_of-nil nodes left)
-    ∙ ap (source.node k (source.Text t) source.none) (sym (forest_of-suc nodes left (heads (k + 1) rest)) ∙ later)
-forest_of-nodes_of (given.comment t rest) nodes k left up s d =
-    let later : forest_of nodes (suc left) (heads (k + 1) rest) ≡ numbered (k + 1) rest =
-    forest_of-nodes_of rest nodes (k + 1) left up (stands_rest nodes k (leaf (stored.Comment t) up) (nodes_of (k + 1) up rest) s) d in
-    forest_of-suc nodes left (heads k (given.comment t rest))
-    ∙ sprout-some (forest_of nodes left) k (slice_get nodes k) (leaf (stored.Comment t) up) (siblings nodes (forest_of nodes left) (heads (k + 1) rest)) (stands_first nodes k (leaf (stored.Comment t) up) (nodes_of (k + 1) up rest) s)
-    ∙ ap (λ f. source.node k (source.Comment t) f (siblings nodes (forest_of nodes left) (heads (k + 1) rest))) (forest_of-nil nodes left)
-    ∙ ap (source.node k (source.Comment t) source.none) (sym (forest_of-suc nodes left (heads (k + 1) rest)) ∙ later)
-forest_of-nodes_of (given.element name attributes content rest) nodes k zero up s d = absurd (omega arith)
-forest_of-nodes_of (given.element name attributes content rest) nodes k (suc left) up s d =
-    let own : Node = record { up = Some up; body = stored.Element name attributes; kids = heads (k + 1) content } in
+-- each node is stored under its number
+AreStored-nodes_of : (g : Given) (nodes : List Node) (k up : ℕ) → StandsAt nodes k (nodes_of k (named up) g) → AreStored nodes (Some up) (numbered k g)
+AreStored-nodes_of given.end nodes k up s = tt
+AreStored-nodes_of (given.text t rest) nodes k up s =
+    let later : List Node = nodes_of (k + 1) (named up) rest in
+    let own : Node = leaf (stored.Text t) (named up) in
+    (stands_first nodes k own later s, tt, AreStored-nodes_of rest nodes (k + 1) up (stands_rest nodes k own later s))
+AreStored-nodes_of (given.comment t rest) nodes k up s =
+    let later : List Node = nodes_of (k + 1) (named up) rest in
+    let own : Node = leaf (stored.Comment t) (named up) in
+    (stands_first nodes k own later s, tt, AreStored-nodes_of rest nodes (k + 1) up (stands_rest nodes k own later s))
+AreStored-nodes_of (given.element name attributes content rest) nodes k up s =
     let inner : List Node = nodes_of (k + 1) (named k) content in
-    let others : List Node = nodes_of (k + 1 + count_of content) up rest in
-    let two : StandsAt nodes (k + 1) (inner ++ others) = stands_rest nodes k own (inner ++ others) s in
-    let below : forest_of nodes (suc left) (heads (k + 1) content) ≡ numbered (k + 1) content =
-    forest_of-nodes_of content nodes (k + 1) left (named k) (stands_left nodes (k + 1) inner others two) (omega arith) in
-    let later : forest_of nodes (suc (suc left)) (heads (k + 1 + count_of content) rest) ≡ numbered (k + 1 + count_of content) rest =
-    forest_of-nodes_of rest nodes (k + 1 + count_of content) (suc left) up (stands_right nodes (k + 1) (count_of content) inner others (length-nodes_of (k + 1) (named k) content) two) (omega arith) in
-    let more : List NodeName = heads (k + 1 + count_of content) rest in
-    forest_of-suc nodes (suc left) (heads k (given.element name attributes content rest))
-    ∙ sprout-some (forest_of nodes (suc left)) k (slice_get nodes k) own (siblings nodes (forest_of nodes (suc left)) more) (stands_first nodes k own (inner ++ others) s)
-    ∙ ap (λ f. source.node k (source.Element name attributes) f (siblings nodes (forest_of nodes (suc left)) more)) below
-    ∙ ap (source.node k (source.Element name attributes) (numbered (k + 1) content)) (sym (forest_of-suc nodes (suc left) more) ∙ later)
+    let others : List Node = nodes_of (k + 1 + count_of content) (named up) rest in
+    let own : Node = record { up = Some (named up); body = stored.Element name attributes; kids = heads (k + 1) content } in
+    let two : StandsAt nodes (k + 1) (inner ++ others) = stands_rest nodes k own (inner ++ others) s in (
+      stands_first nodes k own (inner ++ others) s
+          ∙ ap (λ ks. Some (record { up = Some (named up); body = stored.Element name attributes; kids = ks })) (sym (numbers-numbered (k + 1) content)),
+      AreStored-nodes_of content nodes (k + 1) k (stands_left nodes (k + 1) inner others two),
+      AreStored-nodes_of rest nodes (k + 1 + count_of content) up (stands_right nodes (k + 1) (count_of content) inner others (length-nodes_of (k + 1) (named k) content) two),
+    )
 
-root_forest : (g : Given) → given.depth_of g ≤ 120 → forest_of (arena_of g) 122 (named 0 ∷ []) ≡ source.node 0 source.Root (numbered 1 g) source.none
-root_forest g d =
+AreStored-arena_of : (g : Given) → AreStored (arena_of g) None (source.node 0 source.Root (numbered 1 g) source.none)
+AreStored-arena_of g =
     let stands : StandsAt (arena_of g) 1 (nodes_of 1 (named 0) g) = record {
       before = record { up = None; body = stored.Root; kids = heads 1 g } ∷ [];
       after = [];
       whole = ap (λ ns. record { up = None; body = stored.Root; kids = heads 1 g } ∷ ns) (sym (append-nil (nodes_of 1 (named 0) g)));
       place = refl;
     } in
-    forest_of-suc (arena_of g) 121 (named 0 ∷ [])
-    ∙ ap (λ f. source.node 0 source.Root f source.none) (forest_of-nodes_of g (arena_of g) 1 120 (named 0) stands d)
+    (ap (λ ks. Some (record { up = None; body = stored.Root; kids = ks })) (sym (numbers-numbered 1 g)), AreStored-nodes_of g (arena_of g) 1 0 stands, tt)
+
+AreLeaves-numbered : (k : ℕ) (g : Given) → AreLeaves (numbered k g)
+AreLeaves-numbered k given.end = tt
+AreLeaves-numbered k (given.text t rest) = (refl, AreLeaves-numbered (k + 1) rest)
+AreLeaves-numbered k (given.comment t rest) = (refl, AreLeaves-numbered (k + 1) rest)
+AreLeaves-numbered k (given.element name attributes content rest) = (AreLeaves-numbered (k + 1) content, AreLeaves-numbered (k + 1 + count_of content) rest)
+
+depth_of-numbered : (k : ℕ) (g : Given) → depth_of (numbered k g) ≡ given.depth_of g
+depth_of-numbered k given.end = refl
+depth_of-numbered k (given.text t rest) = ap (max 0) (depth_of-numbered (k + 1) rest) ∙ omega arith
+depth_of-numbered k (given.comment t rest) = ap (max 0) (depth_of-numbered (k + 1) rest) ∙ omega arith
+depth_of-numbered k (given.element name attributes content rest) =
+    ap (λ n. max (1 + n) (depth_of (numbered (k + 1 + count_of content) rest))) (depth_of-numbered (k + 1) content)
+    ∙ ap (max (1 + given.depth_of content)) (depth_of-numbered (k + 1 + count_of content) rest)
 
 pub source_of-arena_of : (g : Given) → given.depth_of g ≤ 120 → source_of (arena_of g) ≡ begun g
 unfolding source_of begun
 source_of-arena_of g d =
     let made : length (arena_of g) - 1 ≡ count_of g = omega (arith, length-nodes_of 1 (named 0) g) in
-    ap (λ t. record { tree = t; made = length (arena_of g) - 1; spaces = [] }) (root_forest g d) ∙ ap (λ m. record { tree = source.node 0 source.Root (numbered 1 g) source.none; made = m; spaces = [] }) made
+    let depth = depth_of-numbered 1 g in
+    ap (λ t. record { tree = t; made = length (arena_of g) - 1; spaces = [] })
+    (reads_tree (arena_of g) (numbered 1 g) (AreStored-arena_of g) (AreLeaves-numbered 1 g) (omega (arith, depth, d)))
+    ∙ ap (λ m. record { tree = source.node 0 source.Root (numbered 1 g) source.none; made = m; spaces = [] }) made
 
--- its cells are those of the nodes
-both_none : (at : Option Node) (spot : Option Spot) → at ≡ None → spot ≡ None → IsSpotOf at spot
-both_none at spot e f = subst (λ o. IsSpotOf o spot) (sym e) (subst (IsSpotOf None) (sym f) tt)
+used_once : (n : ℕ) (g : Given) → uses n (source.node 0 source.Root (numbered 1 g) source.none) ≤ 1
+used_once zero g =
+    let own = count_same 0 0 refl in
+    let below = uses-outside 0 1 g (inl (omega arith)) in
+    omega (arith, own, below)
+used_once (suc n) g =
+    let own = count_other (suc n) 0 (λ e. absurd (omega arith)) in
+    let below = uses-numbered (suc n) 1 g in
+    omega (arith, own, below)
 
-passed : (node : Option Node) (spot : Option Spot) → IsSpotOf node spot → IsSpotOf node (or_else spot None)
-passed None None is = is
-passed None (Some spot) is = is
-passed (Some node) None is = is
-passed (Some node) (Some spot) is = is
-
-spot_of-arena_of : (g : Given) (n : ℕ) → IsSpotOf (slice_get (arena_of g) n) (spot_in None n (source.node 0 source.Root (numbered 1 g) source.none))
-spot_of-arena_of g zero = (refl, refl, numbers-numbered 1 g)
-spot_of-arena_of g (suc i) =
-    let other : spot_in None (suc i) (source.node 0 source.Root (numbered 1 g) source.none) ≡ or_else (spot_in (Some 0) (suc i) (numbered 1 g)) None =
-    at_other (suc i) 0 _ _ (λ e. absurd (omega arith)) in
-    subst (IsSpotOf (slice_get (nodes_of 1 (named 0) g) i)) (sym other) (elim (cases_lt i (count_of g)) [
-      | inl inside ↦
-          let moved : 1 + i ≡ suc i = omega arith in
-          let h : IsSpotOf (slice_get (nodes_of 1 (named 0) g) i) (spot_in (Some 0) (suc i) (numbered 1 g)) =
-          subst (λ n. IsSpotOf (slice_get (nodes_of 1 (named 0) g) i) (spot_in (Some 0) n (numbered 1 g))) moved (spot_in-numbered g 0 i 1 inside) in
-          passed (slice_get (nodes_of 1 (named 0) g) i) (spot_in (Some 0) (suc i) (numbered 1 g)) h
-      | inr past ↦
-          let nothing : spot_in (Some 0) (suc i) (numbered 1 g) ≡ None = spot_in-outside (Some 0) (suc i) 1 g (inr (omega arith)) in
-          let none_there : slice_get (nodes_of 1 (named 0) g) i ≡ None = slice_get_past (nodes_of 1 (named 0) g) i (omega (arith, length-nodes_of 1 (named 0) g)) in
-          passed (slice_get (nodes_of 1 (named 0) g) i) (spot_in (Some 0) (suc i) (numbered 1 g)) (both_none _ _ none_there nothing)
-    ])
-
-pub cells-arena_of : (g : Given) (cell : Cell) → cell_of (begun g) cell ≡ stored_cell (arena_of g) cell
-unfolding begun
-cells-arena_of g cell = facets_of cell.facet (slice_get (arena_of g) cell.node.0) (spot_in None cell.node.0 (source.node 0 source.Root (numbered 1 g) source.none)) (spot_of-arena_of g cell.node.0)
+used_some : (n : ℕ) (g : Given) → n < length (arena_of g) → 0 < uses n (source.node 0 source.Root (numbered 1 g) source.none)
+used_some zero g within = let own = count_same 0 0 refl in omega (arith, own)
+used_some (suc n) g within =
+    let size = length-nodes_of 1 (named 0) g in
+    let below = uses-within g (suc n) 1 (omega arith) (omega (arith, within, size)) in
+    omega (arith, below)
 
 pub IsArena-arena_of : (g : Given) → IsWhole g → IsArena (arena_of g)
-IsArena-arena_of g w = record {
-  cells = λ cell. ap (λ s. cell_of s cell) (source_of-arena_of g w.shallow) ∙ cells-arena_of g cell;
-  made = omega arith;
-  few = omega (arith, w.few, length-nodes_of 1 (named 0) g);
-}
+IsArena-arena_of g w =
+    let depth = depth_of-numbered 1 g in
+    arena_stored (arena_of g) (numbered 1 g) (AreStored-arena_of g) (AreLeaves-numbered 1 g) (λ n. used_once n g) (λ n within. used_some n g within) (omega (arith, depth, w.shallow))
+    (omega (arith, w.few, length-nodes_of 1 (named 0) g))
 
 -- the items of a tree are at most twice as many as its nodes
 pub length-items_of : (g : Given) → length (items_of g) ≤ 2 * count_of g
@@ -208,14 +186,6 @@ AreNodes-numbered names k (given.element name attributes content rest) texts all
   AreNodes-numbered names (k + 1 + count_of content) rest texts.2 (named_right names (items_of content) (item.Finish ∷ items_of rest) all.1).1,
 )
 
-depth_of-numbered : (k : ℕ) (g : Given) → depth_of (numbered k g) ≡ given.depth_of g
-depth_of-numbered k given.end = refl
-depth_of-numbered k (given.text t rest) = ap (max 0) (depth_of-numbered (k + 1) rest) ∙ omega arith
-depth_of-numbered k (given.comment t rest) = ap (max 0) (depth_of-numbered (k + 1) rest) ∙ omega arith
-depth_of-numbered k (given.element name attributes content rest) =
-    ap (λ n. max (1 + n) (depth_of (numbered (k + 1 + count_of content) rest))) (depth_of-numbered (k + 1) content)
-    ∙ ap (max (1 + given.depth_of content)) (depth_of-numbered (k + 1 + count_of content) rest)
-
 used_within : (n : ℕ) (g : Given) → 0 < uses n (source.node 0 source.Root (numbered 1 g) source.none) → n ≤ count_of g
 used_within n g used = elim (cases_lt (count_of g) n) [
   | inl past ↦
@@ -224,16 +194,6 @@ used_within n g used = elim (cases_lt (count_of g) n) [
       absurd (omega (arith, own, below, used))
   | inr within ↦ within
 ]
-
-used_once : (n : ℕ) (g : Given) → uses n (source.node 0 source.Root (numbered 1 g) source.none) ≤ 1
-used_once zero g =
-    let own = count_same 0 0 refl in
-    let below = uses-outside 0 1 g (inl (omega arith)) in
-    omega (arith, own, below)
-used_once (suc n) g =
-    let own = count_other (suc n) 0 (λ e. absurd (omega arith)) in
-    let below = uses-numbered (suc n) 1 g in
-    omega (arith, own, below)
 
 pub IsProper-begun : (names : List NameParts) (g : Given) → IsWhole g → AreNamed names g → IsProper names (begun g)
 unfolding begun

@@ -1,6 +1,6 @@
 -- The source that the nodes of an arena stand for, each under its number as its place.
-use Rattle.std.specs.Prelude.{◌≡◌, ℕ, zero, suc, ◌+◌, ◌-◌, ◌<◌, ◌≤◌, List, [], ◌∷◌, ◌++◌, length, Option, Some, None, slice_get}
-use Rattle.std.specs.Option.{option_and_then}
+use Rattle.std.specs.Prelude.{◌≡◌, ℕ, zero, suc, ◌+◌, ◌-◌, ◌<◌, ◌≤◌, List, [], ◌∷◌, ◌++◌, map, length, Option, Some, None, slice_get}
+use Rattle.std.specs.Option.{option_map, option_and_then}
 use Rattle.serna_kinds.specs.declared.cells.NodeName.{NodeName}
 use Rattle.serna_kinds.specs.declared.cells.Cell.{Cell}
 use Rattle.serna_kinds.specs.declared.cells.Facet.{Facet}
@@ -9,9 +9,10 @@ use Rattle.serna_kinds.specs.Content.{Content}
 use Rattle.serna_kinds.specs.Content as content
 use Rattle.tree_lines.specs.Given.{Given, count_of}
 use Rattle.tree_lines.specs.Given as given
-use Rattle.source_model.specs.Source.{Body, Forest, Source}
+use Rattle.source_model.specs.Source.{Body, Forest, Source, numbers}
 use Rattle.source_model.specs.Source as source
 use Rattle.source_model.specs.Cells.{named, kind_of, name_of, attributes_of, text_of, cell_of}
+use Rattle.source_model.specs.Proper.{uses, depth_of}
 use Rattle.source_tree.specs.declared.node.Node.{Node}
 use Rattle.source_tree.specs.declared.node.NodeBody.{NodeBody}
 use Rattle.source_tree.specs.declared.node.NodeBody.TheVariants as stored
@@ -57,8 +58,39 @@ forest_of nodes (suc left) ks = siblings nodes (forest_of nodes left) ks
 unfoldable pub source_of : List Node → Source
 source_of nodes = record { tree = forest_of nodes 122 (named 0 ∷ []); made = length nodes - 1; spaces = [] }
 
--- the arena stands for a source, whose cells are those of its nodes
+-- what the arena has for a node of the tree: its parent, what it is, and the numbers of its children
+abbrev pub stored_body : Body → NodeBody
+stored_body source.Root = stored.Root
+stored_body (source.Element name attributes) = stored.Element name attributes
+stored_body (source.Text text) = stored.Text text
+stored_body (source.Comment text) = stored.Comment text
+
+abbrev pub node_for : Option ℕ → Body → Forest → Node
+node_for up body kids = record { up = option_map named up; body = stored_body body; kids = map named (numbers kids) }
+
+-- the arena has these neighbours and all nodes below them, each under its number
+abbrev pub AreStored : List Node → Option ℕ → Forest → Type 0
+AreStored nodes up source.none = Unit {0}
+AreStored nodes up (source.node n body kids rest) =
+    (slice_get nodes n ≡ Some (node_for up body kids)) × AreStored nodes (Some n) kids × AreStored nodes up rest
+
+-- what stands below the document node: no other document node, and nothing below a text or a comment
+abbrev pub AreLeaves : Forest → Type 0
+AreLeaves source.none = Unit {0}
+AreLeaves (source.node n source.Root kids rest) = ⊥
+AreLeaves (source.node n (source.Element name attributes) kids rest) = AreLeaves kids × AreLeaves rest
+AreLeaves (source.node n (source.Text text) kids rest) = (kids ≡ source.none) × AreLeaves rest
+AreLeaves (source.node n (source.Comment text) kids rest) = (kids ≡ source.none) × AreLeaves rest
+
+-- the arena stands for a source: it has its nodes and no others, no number stands twice, and the cells of the source are those of the nodes
 pub record IsArena (nodes : List Node) : Type 0 where
+  pub top : Forest
+  pub tree : (source_of nodes).tree ≡ source.node 0 source.Root top source.none
+  pub stored : AreStored nodes None (source.node 0 source.Root top source.none)
+  pub leaves : AreLeaves top
+  pub distinct : (n : ℕ) → uses n (source.node 0 source.Root top source.none) ≤ 1
+  pub complete : (n : ℕ) → n < length nodes → 0 < uses n (source.node 0 source.Root top source.none)
+  pub shallow : depth_of top ≤ 120
   pub cells : (cell : Cell) → cell_of (source_of nodes) cell ≡ stored_cell nodes cell
   pub made : 0 < length nodes
   pub few : length nodes ≤ 1000001

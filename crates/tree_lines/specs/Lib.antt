@@ -1,6 +1,9 @@
+pub mod Canonical
 pub mod Given
 pub mod Kind
 pub mod Reading
 pub mod Tokens
+pub mod Writable
+pub mod Writing
 pub mod Written
 pub mod Whole

@@ -1,6 +1,7 @@
 -- What a reader of lines holds between two lines, and what it says of the lines that are left (this project's own).
-use Rattle.std.specs.Prelude.{◌≡◌, ℕ, ◌+◌, ◌≤◌, List, [], ◌∷◌, ◌++◌, suc, length, encode_utf8_all, ◌≢◌}
+use Rattle.std.specs.Prelude.{◌≡◌, ℕ, ◌+◌, ◌≤◌, List, [], ◌∷◌, ◌++◌, suc, length, encode_utf8_all, ◌≢◌, ◌==◌, if◌then◌else◌}
 use Rattle.std.specs.List.{AllByRecursion}
+use Rattle.serna_kinds.specs.Names.{NameParts, plain_name, with_name}
 use Rattle.tree_lines.specs.declared.tree.TreeItem.{TreeItem}
 use Rattle.tree_lines.specs.declared.tree.TreeItem.TheVariants as item
 use Rattle.tree_lines.specs.Written.{Written, written_lines, IsSpelled, height_of}
@@ -59,6 +60,11 @@ AreWithin items = (nodes_in items ≤ 1000000) × AllByRecursion IsShort items
 -- the items so far with those that follow, the text that is waiting joined to them
 abbrev pub shown : Reading → List TreeItem → List TreeItem
 shown reading rest = reading.items ++ with_item (item.Text reading.text) rest
+
+-- the table after a line: one that begins an element adds its name, and no other adds any
+abbrev pub with_line : List NameParts → List ℕ → List NameParts
+with_line names [] = names
+with_line names (c ∷ rest) = if c == 40 then with_name names (plain_name rest) else names
 
 -- a line that is none of the three
 abbrev pub IsOther : List ℕ → Type 0

@@ -1,7 +1,8 @@
--- What each line of a document says by itself.
-use Rattle.std.specs.Prelude.{ℕ, List, [], ◌∷◌, ◌++◌, IsSome, slice_get, ◌==◌, if◌then◌else◌}
+-- What each line of a document says by itself, and the table that its names make.
+use Rattle.std.specs.Prelude.{ℕ, List, [], ◌∷◌, ◌++◌, IsSome, slice_get, fold, ◌==◌, if◌then◌else◌}
 use Rattle.std.specs.Str.{chars}
-use Rattle.serna_kinds.specs.Names.{NameParts, plain_name, id_of}
+use Rattle.serna_kinds.specs.Names.{NameParts, plain_name, id_of, with_name}
+use Rattle.tree_lines.specs.Written.{Written, element_names}
 use Rattle.tree_lines.specs.declared.tree.Line.{Line}
 use Rattle.tree_lines.specs.declared.tree.TreeItem.{TreeItem}
 use Rattle.tree_lines.specs.declared.tree.TreeItem.TheVariants as item
@@ -37,6 +38,10 @@ without_line (item.Begin name attributes line) = item.Begin name attributes 0
 without_line (item.Text t) = item.Text t
 without_line (item.Comment t) = item.Comment t
 without_line item.Finish = item.Finish
+
+-- a table with the names of a document's elements: one that is there adds nothing, another goes last
+abbrev pub names_with : List NameParts → Written → List NameParts
+names_with names document = fold (λ names name. with_name names (plain_name name)) names (element_names document)
 
 -- each element's name is one of the table's
 abbrev pub IsNamed : List NameParts → TreeItem → Type 0

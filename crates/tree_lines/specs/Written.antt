@@ -34,6 +34,12 @@ is_name (c ∷ cs) = is_letter c && list_all is_name_char cs
 abbrev pub is_text : List ℕ → Bool
 is_text t = list_all (λ c. nat_le 32 c && nat_le c 126 && not (c == 92)) t
 
+-- the names of a document's elements, in document order
+abbrev pub element_names : Written → List (List ℕ)
+element_names end = []
+element_names (text t rest) = element_names rest
+element_names (element name content rest) = name ∷ (element_names content ++ element_names rest)
+
 -- each name is a name and each text a text
 abbrev pub IsSpelled : Written → Type 0
 IsSpelled end = Unit {0}

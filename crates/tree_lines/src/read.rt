@@ -1,14 +1,14 @@
-ghost use Rattle.std.specs.Prelude.{◌≡◌, ℕ, ◌+◌, ◌<◌, ◌≤◌, List, [], ◌∷◌, ◌++◌, length, map, IfOk, OnOk, IsTrue};
+ghost use Rattle.std.specs.Prelude.{◌≡◌, ℕ, ◌+◌, ◌<◌, ◌≤◌, List, [], ◌∷◌, ◌++◌, length, map, fold, IfOk, OnOk, IsTrue};
 ghost use Rattle.std.specs.List.{AllByRecursion, list_all};
 ghost use Rattle.std.specs.Str.{chars, IsAscii};
-ghost use Rattle.serna_kinds.specs.Names.{NameParts, Grows, plain_name, id_of};
+ghost use Rattle.serna_kinds.specs.Names.{NameParts, Grows, plain_name, id_of, with_name};
 ghost use Rattle.serna_kinds.specs.declared.cells.NameId.{NameId};
 ghost use Rattle.tree_lines.specs.declared.tree.TreeItem.{TreeItem};
 ghost use Rattle.tree_lines.specs.Written.{Written, written_lines, is_letter, is_digit, is_name_char, is_name, is_text, IsSpelled};
 ghost use Rattle.tree_lines.specs.Given.{IsDocument, items_of, given_of};
-ghost use Rattle.tree_lines.specs.Tokens.{token_of, with_item, joined_items, without_line, IsNamed};
+ghost use Rattle.tree_lines.specs.Tokens.{token_of, with_item, joined_items, without_line, names_with, IsNamed};
 ghost use Rattle.tree_lines.specs.Kind.{IsKind};
-ghost use Rattle.tree_lines.specs.Reading.{Reading, Closes, IsBuilt, nodes_in, IsShort, AreWithin, shown, text_item};
+ghost use Rattle.tree_lines.specs.Reading.{Reading, Closes, IsBuilt, nodes_in, IsShort, AreWithin, shown, text_item, with_line};
 
 use crate::{Line, Tree, TreeItem};
 use serna_kinds::{Chars, Items, NameTable, NoMemory};
@@ -186,6 +186,7 @@ impl<'a> Reader<'a> {
         ensures items { OnOk result ((table : List NameParts) → Grows names.new table → (rest : List TreeItem) → shown self.new rest ≡ shown self.old (TreeItem.Begin (id_of table (plain_name name.now)) [] number ∷ rest)) }
         ensures named { OnOk result ((table : List NameParts) → Grows names.new table → AllByRecursion (IsNamed table) self.old.items → AllByRecursion (IsNamed table) self.new.items) }
         ensures refused { result ≡ Err LineFault.NotBuilt → IsTrue (is_name name.now) → length self.old.names + 1 ≤ 120 → (id : NameId) (rest : List TreeItem) → AreWithin (shown self.old (TreeItem.Begin id [] number ∷ rest)) → ⊥ }
+        ensures table { OnOk result (names.new ≡ with_name names.old (plain_name name.now)) }
         ensures grows { Grows names.old names.new }
     {
         if self.open.len() == MAX_DEPTH || !is_name(name) {
@@ -245,6 +246,7 @@ impl<'a> Reader<'a> {
         ensures items { OnOk result ((table : List NameParts) → Grows names.new table → (rest : List TreeItem) → shown self.new rest ≡ with_item (token_of table line.now) rest) }
         ensures named { OnOk result ((table : List NameParts) → Grows names.new table → AllByRecursion (IsNamed table) self.new.items) }
         ensures refused { result ≡ Err LineFault.NotBuilt → (rest : List (List ℕ)) → IsBuilt (line.now.bytes ∷ rest) → (table : List NameParts) (items : List TreeItem) → AreWithin (with_item (token_of table line.now) items) → ⊥ }
+        ensures table { OnOk result (names.new ≡ with_line names.old line.now.bytes) }
         ensures grows { Grows names.old names.new }
     {
         match kind_of(line.bytes.as_slice()) {
@@ -270,6 +272,7 @@ impl<'a> Reader<'a> {
         ensures items { OnOk result ((table : List NameParts) → Grows names.new table → (rest : List TreeItem) → shown self.new rest ≡ shown self.old (with_item (token_of table line.now) rest)) }
         ensures named { OnOk result ((table : List NameParts) → Grows names.new table → AllByRecursion (IsNamed table) self.old.items → AllByRecursion (IsNamed table) self.new.items) }
         ensures refused { result ≡ Err LineFault.NotBuilt → (rest : List (List ℕ)) → Closes self.old.names (line.now.bytes ∷ rest) → (table : List NameParts) (items : List TreeItem) → AreWithin (shown self.old (with_item (token_of table line.now) items)) → ⊥ }
+        ensures table { OnOk result (names.new ≡ with_line names.old line.now.bytes) }
         ensures grows { Grows names.old names.new }
     {
         if self.open.is_empty() {
@@ -326,6 +329,7 @@ fn read_items(
     ensures within { IfOk result (λ items. AreWithin items) }
     ensures named { IfOk result (λ items. (table : List NameParts) → Grows names.new table → AllByRecursion (IsNamed table) items) }
     ensures refused { result ≡ Err LineFault.NotBuilt → IsBuilt (map (λ line. line.bytes) lines.now) → (table : List NameParts) → Grows names.new table → AreWithin (joined_items (map (token_of table) lines.now)) → ⊥ }
+    ensures table { OnOk result (names.new ≡ fold with_line names.old (map (λ line. line.bytes) lines.now)) }
     ensures grows { Grows names.old names.new }
 {
     let Some((first, rest)) = lines.split_first() else {
@@ -361,7 +365,10 @@ pub fn read_tree(alloc: Global, lines: &[Line], names: &mut NameTable) -> Result
     // Nothing that is a document is refused, unless memory runs out.
     ensures refused { result ≡ Err LineFault.NotBuilt → (document : Written) → IsDocument document → map (λ line. line.bytes) lines.now ≡ written_lines document → ⊥ }
 
-    // The table grows at most.
+    // The table gets the names of the document's elements, in document order: one that is there adds nothing, another goes last.
+    ensures table { OnOk result ((document : Written) → map (λ line. line.bytes) lines.now ≡ written_lines document → names.new ≡ names_with names.old document) }
+
+    // The table grows at most, also where nothing is read.
     ensures grows { Grows names.old names.new }
 {
     let items = read_items(alloc, lines, names)?;

@@ -1,23 +1,43 @@
-use Rattle.std.proofs.Common.{◌≡◌, ◌+◌, take, drop, subst, ap, ◌∙◌}
+use Rattle.std.proofs.Common.{◌≡◌, ◌+◌, ℕ, List, take, drop, subst, sym, ◌∙◌}
+use Rattle.std.specs.String.{string_bytes}
+use Rattle.serna_outside.specs.Outside.{Appends}
+use Rattle.plain_editor.specs.Editor.{Editor, opened, replies}
 use Rattle.serna_main.specs.Outside.{AppendsFront}
-use Rattle.serna_main.proofs.Bytes.{front_then}
-use Rattle.serna_main.proofs.Replies.{bytes_of, replies_split, replies_next}
-use Rattle.plain_editor.specs.Editor.{replies, reply}
+use Rattle.serna_main.proofs.Bytes.{front_then, appends_then}
+use Rattle.serna_main.proofs.Replies.{bytes_of, after, answer, replies_next, replies_more, after_more, answer_at, step_at, front_so_far}
 use Rattle.serna_main.proofs.run.run_script.Goals as goal
 
-pub returns-in_default-clause-front : goal.returns-in_default-clause-front
-returns-in_default-clause-front g c = (
-  replies c.args.source.now (bytes_of (take c.commands.line-index c.args.script.now)),
-  replies c.args.source.now (bytes_of (drop c.commands.line-index c.args.script.now)),
-  replies_split c.args.source.now c.commands.line-index c.args.script.now,
-  c.commands.invariant.0,
-)
+pub returns-clause-front : goal.returns-clause-front
+returns-clause-front g c = front_so_far (opened c.args.names c.args.source) c.commands.line-index c.args.script.now (g.K.Sink.held c.args.sink.now) (g.K.Sink.held c.commands.sink) c.commands.invariant.written
 
-pub returns-then-not-offer-clause-front : goal.returns-then-not-offer-clause-front
-returns-then-not-offer-clause-front g c =
-    let said : c.as_bytes.result.now ≡ reply c.args.source.now c.line-item.result.bytes =
-    c.as_bytes.ensures.value ∙ c.in-Ok.ensures ∙ ap (reply c.args.source.now) c.as_slice.ensures in
-    front_then (g.K.Sink.held c.args.sink.now) (g.K.Sink.held c.commands.sink) (g.K.Sink.held c.offer.new.sink) (replies c.args.source.now (bytes_of (take c.commands.line-index c.args.script.now)))
-    (reply c.args.source.now c.line-item.result.bytes) (replies c.args.source.now (bytes_of (drop (c.commands.line-index + 1) c.args.script.now))) (replies c.args.source.now (bytes_of c.args.script.now))
-    (replies_next c.args.source.now c.commands.line-index c.args.script.now c.line-item.result c.commands-test.true c.line-item.is) c.commands.invariant.0
-    (subst (AppendsFront (g.K.Sink.held c.commands.sink) (g.K.Sink.held c.offer.new.sink)) said c.offer.ensures.front)
+pub returns-in_default-clause-front : goal.returns-in_default-clause-front
+returns-in_default-clause-front g c = front_so_far (opened c.args.names c.args.source) c.commands.line-index c.args.script.now (g.K.Sink.held c.args.sink.now) (g.K.Sink.held c.commands.sink) c.commands.invariant.written
+
+pub returns-then-not-offer_lines-clause-front : goal.returns-then-not-offer_lines-clause-front
+returns-then-not-offer_lines-clause-front g c =
+    let so_far : List (List ℕ) = bytes_of (take c.commands.line-index c.args.script.now) in
+    let line : List ℕ = c.line-item.result.bytes in
+    let reply : c.as_bytes.result.now ≡ answer (after (opened c.args.names c.args.source) so_far) line =
+    answer_at c.commands.editor (after (opened c.args.names c.args.source) so_far) c.as_bytes.result.now (string_bytes c.in-Ok.text) c.as_slice.result.now line c.as_bytes.ensures.value c.in-Ok.ensures.answer c.as_slice.ensures c.commands.invariant.editor in
+    front_then (g.K.Sink.held c.args.sink.now) (g.K.Sink.held c.commands.sink) (g.K.Sink.held c.offer_lines.new.sink) (replies (opened c.args.names c.args.source) so_far) (answer (after (opened c.args.names c.args.source) so_far) line)
+    (replies (after (opened c.args.names c.args.source) (bytes_of (take (c.commands.line-index + 1) c.args.script.now))) (bytes_of (drop (c.commands.line-index + 1) c.args.script.now)))
+    (replies (opened c.args.names c.args.source) (bytes_of c.args.script.now))
+    (replies_next (opened c.args.names c.args.source) c.commands.line-index c.args.script.now c.line-item.result c.commands-test.true c.line-item.is) c.commands.invariant.written
+    (subst (AppendsFront (g.K.Sink.held c.commands.sink) (g.K.Sink.held c.offer_lines.new.sink)) reply c.offer_lines.ensures.front)
+
+pub commands-preserved : goal.commands-preserved
+commands-preserved g c =
+    let so_far : List (List ℕ) = bytes_of (take c.commands.line-index c.args.script.now) in
+    let line : List ℕ = c.line-item.result.bytes in
+    let at : Editor = after (opened c.args.names c.args.source) so_far in
+    let reply : c.as_bytes.result.now ≡ answer at line =
+    answer_at c.commands.editor at c.as_bytes.result.now (string_bytes c.in-Ok.text) c.as_slice.result.now line c.as_bytes.ensures.value c.in-Ok.ensures.answer c.as_slice.ensures c.commands.invariant.editor in
+    record {
+      written = subst (Appends (g.K.Sink.held c.args.sink.now) (g.K.Sink.held c.offer_lines.new.sink))
+          (sym (replies_more (opened c.args.names c.args.source) c.commands.line-index c.args.script.now c.line-item.result c.commands-test.true c.line-item.is))
+          (appends_then (g.K.Sink.held c.args.sink.now) (g.K.Sink.held c.commands.sink) (g.K.Sink.held c.offer_lines.new.sink) (replies (opened c.args.names c.args.source) so_far) (answer at line) c.commands.invariant.written
+          (subst (Appends (g.K.Sink.held c.commands.sink) (g.K.Sink.held c.offer_lines.new.sink)) reply (c.offer_lines.ensures.written c.if-not-offer_lines.false)));
+      editor = step_at c.commands.editor at c.obey.new.self c.as_slice.result.now line c.in-Ok.ensures.state c.as_slice.ensures c.commands.invariant.editor
+          ∙ sym (after_more (opened c.args.names c.args.source) c.commands.line-index c.args.script.now c.line-item.result c.commands-test.true c.line-item.is);
+      faults = c.offer_lines.ensures.kept c.if-not-offer_lines.false ∙ c.commands.invariant.faults;
+    }

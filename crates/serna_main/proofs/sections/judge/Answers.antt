@@ -42,14 +42,15 @@ returns-in-Some-2-clause-accepted c =
     let lines : bytes_of c.in_ok-lines.lines.items ≡ lines_of c.args.bytes.now = ap bytes_of c.in_ok-lines.ensures ∙ bytes_of-numbered 1 (lines_of c.args.bytes.now) in
     let at = place_some c.in_ok-lines.lines.items c.in-Some.place (c.in-Some.ensures ∙ ap (position (λ (line : Line). is_script line.bytes)) c.as_slice.ensures.value) in
     let within = at.1 in
-    let found : Begins (bytes_of (take c.in-Some.place c.deref.result.now)) c.in-Some-2.source =
-    subst (λ o. IfSome o (Begins (bytes_of (take c.in-Some.place c.deref.result.now)))) c.in-Some-2.is c.in_ok-document_of.ensures.begun in
+    let found : Begins (bytes_of (take c.in-Some.place c.deref.result.now)) c.in-Some-2.names c.in-Some-2.source =
+    subst (λ o. IfSome o (λ begun. Begins (bytes_of (take c.in-Some.place c.deref.result.now)) begun.0 begun.1)) c.in-Some-2.is c.in_ok-document_of.ensures.begun in
     let spelled : bytes_of (take c.in-Some.place c.in_ok-lines.lines.items) ≡ document_head ∷ written_lines found.document =
     ap (λ ls. bytes_of (take c.in-Some.place ls)) (sym c.deref.ensures.value) ∙ found.spelled in
     record {
       document = found.document;
       is-input = is_input c.args.bytes.now c.in_ok-lines.lines.items c.in-Some.place found.document lines at.0 at.1 c.if-bytes-gt-MOST.false found.built spelled;
       within = omega (arith, within);
-      names = found.names;
+      table = found.table;
       begins = found.begins;
+      proper = found.proper;
     }

@@ -1,5 +1,6 @@
 use Rattle.std.proofs.Common.{sym, subst, IfSome}
 use Rattle.std.specs.Option.{IfNone}
+use Rattle.plain_editor.proofs.Steps.{opened_sound}
 use Rattle.serna_main.specs.Out.{IsRefused}
 use Rattle.serna_main.specs.Outside.{AppendsFront}
 use Rattle.serna_main.specs.Sections.{IsJudged}
@@ -10,7 +11,7 @@ use Rattle.serna_main.proofs.top.answer.Goals as goal
 pub obey-requires : goal.obey-requires
 obey-requires g c =
     let j : IsJudged c.args.input.now c.in-Ok-Some.sections = subst (λ o. IfSome o (IsJudged c.args.input.now)) c.in-Ok-Some.field-0-is c.in-Ok-Some.ensures.accepted in
-    j.within
+    record { within = j.within; sound = (c.in-Ok-Some.sections.names, opened_sound c.in-Ok-Some.sections.names c.in-Ok-Some.sections.source j.proper) }
 
 pub returns-in-Err : goal.returns-in-Err
 returns-in-Err g c =

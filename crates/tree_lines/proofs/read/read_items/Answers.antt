@@ -1,7 +1,7 @@
 -- A line more, and the end of the lines.
 use Rattle.std.proofs.Common.{◌∙◌}
 use Rattle.tree_lines.specs.declared.read.LineFault.TheVariants as fault
-use Rattle.tree_lines.proofs.Lines.{next_closes, next_left, next_items, none_left, all_shown}
+use Rattle.tree_lines.proofs.Lines.{next_closes, next_left, next_items, next_table, none_left, all_shown, whole_table}
 use Rattle.tree_lines.proofs.Steps.{Grows-twice, passed_on}
 use Rattle.tree_lines.proofs.read.read_items.Goals as goal
 
@@ -18,6 +18,7 @@ loop-line-preserved c =
       closes = λ h. inv.closes (next_closes rest i line was.names c.next_line.new.self.names c.loop-line-test.true c.line-item.is ok.closes h);
       left = λ b. next_left rest i line was.names c.next_line.new.self.names c.loop-line-test.true c.line-item.is ok.left (inv.left b);
       items = λ table g. next_items rest i line table was c.next_line.new.self c.loop-line-test.true c.line-item.is (ok.items table g) ∙ inv.items table (Grows-twice c.loop-line.names c.next_line.new.names table ok.grows g);
+      table = next_table rest i line c.loop-line.names c.next_line.new.names c.loop-line-test.true c.line-item.is ok.table ∙ inv.table;
       named = λ table g. ok.named table g (inv.named table (Grows-twice c.loop-line.names c.next_line.new.names table ok.grows g));
     }
 
@@ -32,3 +33,7 @@ returns-in_err-end-clause-refused c = λ e built table g w.
 pub returns-clause-named : goal.returns-clause-named
 returns-clause-named c = λ table g.
     rw c.into_items.ensures.items (c.in_ok-end.ensures.named table (c.loop-line.invariant.named table g))
+
+pub returns-clause-table : goal.returns-clause-table
+returns-clause-table c =
+    whole_table c.in-Some.rest.now c.loop-line.line-index c.loop-line.names _ c.loop-line-test.false c.loop-line.invariant.table

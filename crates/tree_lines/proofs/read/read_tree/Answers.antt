@@ -6,7 +6,7 @@ use Rattle.tree_lines.specs.Tokens.{without_line}
 use Rattle.tree_lines.proofs.Joining.{items_of-lines}
 use Rattle.tree_lines.proofs.Limits.{AreWithin-from_document, IsBuilt-from_document, IsDocument-from_built, IsTree-from_built}
 use Rattle.tree_lines.proofs.Steps.{Grows-same, passed_on}
-use Rattle.tree_lines.proofs.Lines.{bytes_of}
+use Rattle.tree_lines.proofs.Lines.{bytes_of, table_of-lines}
 use Rattle.tree_lines.proofs.read.read_tree.Goals as goal
 
 pub returns-in_err-items-clause-refused : goal.returns-in_err-items-clause-refused
@@ -36,3 +36,7 @@ returns-clause-given c = λ table g document same spelled.
 
 pub returns-clause-named : goal.returns-clause-named
 returns-clause-named c = λ table g. rw c.from_items.ensures (c.in_ok-items.ensures.named table g)
+
+pub returns-clause-table : goal.returns-clause-table
+returns-clause-table c = λ document same.
+    table_of-lines (bytes_of c.args.lines.now) document c.args.names.now c.read_items.new.names c.in_ok-items.ensures.table same

@@ -5,6 +5,7 @@ use Rattle.tree_lines.specs.declared.read.LineFault.TheVariants as fault
 use Rattle.tree_lines.specs.Reading.{Reading}
 use Rattle.tree_lines.proofs.Grammar.{first_closes, first_good}
 use Rattle.tree_lines.proofs.Steps.{first_items, passed_on, AreWithin-same}
+use Rattle.tree_lines.proofs.Lines.{begun_table}
 use Rattle.tree_lines.proofs.read.Reader.first_line.Goals as goal
 
 pub returns-in_err-begin-in-Begin-clause-refused : goal.returns-in_err-begin-in-Begin-clause-refused
@@ -33,3 +34,7 @@ pub returns-in_ok-begin-in-Begin-clause-named : goal.returns-in_ok-begin-in-Begi
 returns-in_ok-begin-in-Begin-clause-named c = λ table g.
     let none : c.args.self.now.items ≡ [] = ap (λ (r : Reading). r.items) c.requires in
     c.in_ok-begin-in-Begin.ensures.named table g (rw none tt)
+
+pub returns-in_ok-begin-in-Begin-clause-table : goal.returns-in_ok-begin-in-Begin-clause-table
+returns-in_ok-begin-in-Begin-clause-table c =
+    begun_table c.args.names.now c.begin.new.names c.args.line.now.bytes c.in-Begin.name.now (sym c.as_slice.ensures ∙ c.in-Begin.ensures) c.in_ok-begin-in-Begin.ensures.table

@@ -5,6 +5,7 @@ use Rattle.tree_lines.specs.declared.read.LineFault.TheVariants as fault
 use Rattle.tree_lines.specs.Reading.{Reading}
 use Rattle.tree_lines.proofs.Grammar.{begun_closes, begun_left, begun_good, texted_closes, texted_left, finished_closes, finished_left, finished_good, other_bad}
 use Rattle.tree_lines.proofs.Steps.{open_some, line_items, passed_on}
+use Rattle.tree_lines.proofs.Lines.{begun_table, texted_table, finished_table}
 use Rattle.tree_lines.proofs.read.Reader.next_line.Goals as goal
 
 abbrev now_of : Bor (List ℕ) → List ℕ
@@ -76,3 +77,15 @@ pub returns-in-Other-clause-refused : goal.returns-in-Other-clause-refused
 returns-in-Other-clause-refused c = λ e rest h table items w.
     let some = open_some now_of c.args.self.now c.self.inside.open c.is_empty.result (ap (λ (r : Reading). r.names) c.self.view_is) c.is_empty.ensures c.if-is_empty.false in
     other_bad c.args.self.now.names c.args.line.now.bytes rest some (rw c.as_slice.ensures at c.in-Other.ensures) h
+
+pub returns-in_ok-begin-in-Begin-clause-table : goal.returns-in_ok-begin-in-Begin-clause-table
+returns-in_ok-begin-in-Begin-clause-table c =
+    begun_table c.args.names.now c.begin.new.names c.args.line.now.bytes c.in-Begin.name.now (sym c.as_slice.ensures ∙ c.in-Begin.ensures) c.in_ok-begin-in-Begin.ensures.table
+
+pub returns-in_ok-text-in-Text-clause-table : goal.returns-in_ok-text-in-Text-clause-table
+returns-in_ok-text-in-Text-clause-table c =
+    texted_table c.args.names.now c.args.line.now.bytes c.in-Text.text.now (sym c.as_slice.ensures ∙ c.in-Text.ensures)
+
+pub returns-in_ok-finish-in-Finish-clause-table : goal.returns-in_ok-finish-in-Finish-clause-table
+returns-in_ok-finish-in-Finish-clause-table c =
+    finished_table c.args.names.now c.args.line.now.bytes c.in-Finish.name.now (sym c.as_slice.ensures ∙ c.in-Finish.ensures)

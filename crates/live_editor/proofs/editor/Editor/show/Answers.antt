@@ -1,0 +1,28 @@
+-- The stops that are kept are those of the view.
+use Rattle.std.proofs.Common.{[], Some, List, sym, ap, ◌∙◌, subst}
+use Rattle.source_tree.specs.declared.prim.Primitive.{Primitive}
+use Rattle.plain_editor.specs.Stops.{stops_behind, view_stops}
+use Rattle.plain_editor.specs.Stops as stops
+use Rattle.plain_editor.specs.Commands as command
+use Rattle.plain_editor.specs.Editor.{Editor}
+use Rattle.plain_editor.proofs.Steps.{obeyed_sound}
+use Rattle.plain_editor.specs.Runs.{view_runs}
+use Rattle.live_editor.specs.Shown.{boundaries_of}
+use Rattle.live_editor.specs.Held.{IsSomeSound}
+use Rattle.live_editor.proofs.editor.Editor.show.Goals as goal
+
+abbrev with_view : Editor → List stops.Boundary → List Primitive → Editor
+with_view now boundaries since = record { names = now.names; source = now.source; revision = now.revision; caret = now.caret; stops = Some (stops_behind [] boundaries); since = since }
+
+pub returns-clause-state : goal.returns-clause-state
+unfolding view_stops
+returns-clause-state c =
+    ap (λ (now : Editor). with_view now (boundaries_of c.in_ok-view.view.boundaries.items) c.clear.new.self.items) c.self.view_is
+    ∙ ap (λ bs. with_view c.args.self.now bs c.clear.new.self.items) (c.in_ok-view.ensures.boundaries ∙ ap (λ (now : Editor). stops.line_boundaries 0 (view_runs now.source)) c.self.view_is)
+    ∙ ap (λ ps. with_view c.args.self.now (stops.line_boundaries 0 (view_runs c.args.self.now.source)) ps) c.clear.ensures.items
+
+pub invariant_of-self : goal.invariant_of-self
+invariant_of-self c =
+    let now : Editor = c.args.self.now in
+    let sound : IsSomeSound now = subst IsSomeSound c.self.view_is c.self.invariant in
+    subst IsSomeSound (sym (returns-clause-state c)) (sound.0, obeyed_sound sound.0 now command.Show tt sound.1)

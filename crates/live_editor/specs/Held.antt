@@ -1,0 +1,62 @@
+-- The editor in memory stands for the plain editor, and how proofs tell two of these apart.
+use Rattle.std.specs.Prelude.{◌≡◌, ℕ, ◌+◌, ◌==◌, ◌&&◌, Bool, true, false, List, [], length, take, filter, slice_get, Option, Some, None, Result, Ok, Err, refl}
+use Rattle.std.specs.Coded.{Coded, code_by, coded×, coded_ℕ}
+use Rattle.serna_kinds.specs.Names.{NameParts}
+use Rattle.source_model.specs.Source.{Source}
+use Rattle.source_tree.specs.declared.prim.Caret.{Caret}
+use Rattle.source_tree.specs.declared.prim.Primitive.{Primitive}
+use Rattle.source_tree.specs.Places.{carried_through}
+use Rattle.plain_editor.specs.Editor.{Editor, Reply, Done, Refused, with_caret}
+use Rattle.plain_editor.specs.Stops.{Stop, stops_behind, comes_from}
+use Rattle.plain_editor.specs.Sound.{IsSound}
+use Rattle.live_editor.specs.declared.view.Boundary.{Boundary}
+use Rattle.live_editor.specs.declared.view.Origin.{Origin}
+use Rattle.live_editor.specs.declared.view.Origin.TheVariants as code
+use Rattle.live_editor.specs.declared.reply.Rule.{Rule}
+use Rattle.live_editor.specs.declared.editor.TypeFault.{TypeFault}
+use Rattle.live_editor.specs.declared.editor.TypeFault.TheVariants as fault
+use Rattle.live_editor.specs.Answers.{rule_of}
+use Rattle.live_editor.specs.Shown.{boundaries_of}
+
+-- the stops that boundaries of a view are
+abbrev pub stops_of : List Boundary → List Stop
+stops_of boundaries = stops_behind [] (boundaries_of boundaries)
+
+-- whatever table has the names of its elements, the editor is sound
+abbrev pub IsSomeSound : Editor → Type 0
+IsSomeSound editor = (names : List NameParts) × IsSound names editor
+
+abbrev pub Parts : Type 0
+Parts = List NameParts × (Source × (ℕ × (Option Caret × (Option (List Stop) × List Primitive))))
+
+pub editor_code : Coded (List NameParts) → Coded Source → Coded (Option Caret) → Coded (Option (List Stop)) → Coded (List Primitive) → Coded Editor
+editor_code names source caret stops since =
+    code_by Parts (coded× names (coded× source (coded× coded_ℕ (coded× caret (coded× stops since))))) (λ e. (e.names, (e.source, (e.revision, (e.caret, (e.stops, e.since))))))
+    (λ p. record { names = p.0; source = p.1.0; revision = p.1.1.0; caret = p.1.1.1.0; stops = p.1.1.1.1.0; since = p.1.1.1.1.1 }) (λ _. refl)
+
+-- the editor after a caret was looked for in the last view, and what is answered
+abbrev pub taken : Editor → Result Caret Rule → Editor × Reply
+taken editor (Ok caret) = (with_caret editor (carried_through editor.since caret.place) caret.occurrence, Done)
+taken editor (Err rule) = (editor, Refused (rule_of rule))
+
+-- a refusal by a rule, or want of memory; the state is kept
+abbrev pub IsRefusal : Type 0 → (Rule → Type 0) → TypeFault → Type 0
+IsRefusal kept refused (fault.Rule rule) = kept × refused rule
+IsRefusal kept refused fault.NoMemory = kept
+
+abbrev pub is_place : Origin → Bool
+is_place (code.At place) = true
+is_place (code.Fixed rule) = false
+
+-- the boundary is in a column, and at a place
+abbrev pub is_caret_in : ℕ → Boundary → Bool
+is_caret_in column here = here.column == column && is_place here.origin
+
+abbrev pub is_place_at : List Boundary → ℕ → Bool
+is_place_at boundaries index = elim (slice_get boundaries index) [ None ↦ false | Some here ↦ is_place here.origin ]
+
+-- the caret at one of the boundaries, which is at a place
+pub record IsCaretAt (boundaries : List Boundary) (index : ℕ) (caret : Caret) : Type 0 where
+  pub column : ℕ
+  pub here : slice_get boundaries index ≡ Some (record { column = column; origin = code.At caret.place })
+  pub occurrence : caret.occurrence ≡ 1 + length (filter (comes_from caret.place) (boundaries_of (take index boundaries)))

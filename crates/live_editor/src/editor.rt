@@ -1,0 +1,458 @@
+ghost use Rattle.std.specs.List.{list_any};
+ghost use Rattle.std.specs.Prelude.{position, ◌==◌, ◌≡◌, ◌≢◌, ◌++◌, ◌+◌, ◌∷◌, [], Ok, Err, IsTrue, None, IfOk, IfErr, OnOk, OnErr, ℕ, List, filter, length, slice_get, Some, ◌<◌, ◌≤◌};
+ghost use Rattle.std.specs.Str.{chars};
+ghost use Rattle.std.specs.String.{string_bytes};
+ghost use Rattle.source_tree.specs.declared.prim.CaretPlace.TheVariants as place;
+ghost use Rattle.source_tree.specs.Prims.{applied, MayApply, KeepsProper};
+ghost use Rattle.source_tree.specs.Places.{IsPlaceOf, carried_through};
+ghost use Rattle.source_model.specs.Changes.{text_at};
+ghost use Rattle.plain_editor.specs.Runs.{At};
+ghost use Rattle.plain_editor.specs.Stops.{comes_from};
+ghost use Rattle.plain_editor.specs.Editor.{Editor, Done, Refused, opened, shown, stands_at, put_among, put_at, changed, bytes_of, typed_at, typed, obeyed, step, told, standing, standing_at, nearest, stands_for, reply_text};
+ghost use Rattle.plain_editor.specs.Editor as editor;
+ghost use Rattle.live_editor.specs.Answers.{rule_of, reply_of, standing_of, shown_at};
+ghost use Rattle.live_editor.specs.Shown.{boundaries_of, boundary_of, origin_of};
+ghost use Rattle.live_editor.specs.Held.{stops_of, IsSomeSound, IsRefusal, taken, is_place, is_caret_in, is_place_at, IsCaretAt};
+ghost use Rattle.plain_editor.specs.Commands as command;
+ghost use Rattle.live_editor.specs.declared.editor.TypeFault.TheVariants as fault;
+
+use crate::command::{Command, read_command};
+use crate::place::{carried, is_same_place};
+use crate::reply::{Rule, Standing, reply_line, told_line};
+use crate::view::{Boundary, Origin, view_of};
+use serna_kinds::{
+    Cell, CellValue, Chars, Facet, Items, NameTable, NoMemory, NodeName, SourceView,
+};
+use source_tree::{Caret, CaretPlace, Primitive, SourceTree, SubItem};
+use std::alloc::{AllocError, Global};
+use std::marker::Model;
+
+/// The most bytes of a text node, the most nodes that are ever made, and the most changes that are accepted.
+const MAX_TEXT_BYTES: usize = 16_384;
+
+const MAX_NODES: u32 = 1_000_000;
+
+const MAX_REVISIONS: u32 = 50_000;
+
+/// The plain editor: one source, a caret and the stops of the last view, changed by one command line after another.
+#[derive(Debug, Drop)]
+pub struct Editor {
+    names: NameTable,
+    source: SourceTree,
+    revision: u32,
+    caret: Option<Caret>,
+    view: Option<Vec<Boundary>>,
+    since: Vec<Primitive>,
+}
+
+impl Model for Editor {
+    ghost use Rattle.std.specs.Coded.{codes};
+    ghost use Rattle.std.specs.Option.{option_map};
+    ghost use Rattle.source_model.specs.Codes.{source_code};
+    ghost use Rattle.plain_editor.specs.Editor.{Editor};
+    ghost use Rattle.live_editor.specs.Held.{editor_code, stops_of, IsSomeSound};
+
+    ghost Value = { Editor };
+
+    ghost coded = { editor_code (Prim.hlevel codes) (source_code (Prim.hlevel codes) (Prim.hlevel codes)) (Prim.hlevel codes) (Prim.hlevel codes) (Prim.hlevel codes) };
+
+    ghost view = { λ e. record { names = e.names; source = e.source; revision = e.revision; caret = e.caret; stops = option_map (λ boundaries. stops_of boundaries.items) e.view; since = e.since.items } };
+
+    ghost invariant = { λ e. IsSomeSound (record { names = e.names; source = e.source; revision = e.revision; caret = e.caret; stops = option_map (λ boundaries. stops_of boundaries.items) e.view; since = e.since.items }) };
+}
+
+/// Why a text was not typed.
+enum TypeFault {
+    Rule(Rule),
+    NoMemory,
+}
+
+impl From<NoMemory> for TypeFault {
+    ghost from_gives = { λ _ e. e ≡ fault.NoMemory };
+
+    fn from(_e: NoMemory) -> TypeFault {
+        TypeFault::NoMemory
+    }
+}
+
+impl Editor {
+    /// The editor of a source whose names are numbers of a table, before the first command. Takes no memory.
+    pub fn open(alloc: Global, names: NameTable, source: SourceTree) -> Editor
+        requires { IsSomeSound (opened names source) }
+        ensures { result ≡ opened names source }
+    {
+        Editor {
+            names,
+            source,
+            revision: 0,
+            caret: None,
+            view: None,
+            since: Vec::new(alloc),
+        }
+    }
+
+    /// Obeys a command line, and gives the text that it is answered, each line with its LF.
+    ///
+    /// `Err` comes where memory runs out. The editor is then of no further use.
+    pub fn obey(&mut self, alloc: Global, line: &[u8]) -> Result<String, NoMemory>
+        ensures state { OnOk result (self.new ≡ (step self.old line.now).0) }
+        ensures answer { IfOk result (λ text. string_bytes text ≡ reply_text (step self.old line.now).1) }
+    {
+        match read_command(line) {
+            Command::Show => {
+                let text = self.show(alloc)?;
+                Ok(text)
+            }
+            Command::At(page, line, column) => {
+                let text = reply_line(alloc, self.put_at(page, line, column))?;
+                Ok(text)
+            }
+            Command::Typing(text) => {
+                let text = self.answer_typing(alloc, text)?;
+                Ok(text)
+            }
+            Command::Where => {
+                let text = self.tell(alloc)?;
+                Ok(text)
+            }
+            Command::Source => {
+                let text = self.write_source(alloc)?;
+                Ok(text)
+            }
+            Command::NotBuilt => {
+                let text = reply_line(alloc, Err(Rule::NotBuilt))?;
+                Ok(text)
+            }
+        }
+    }
+
+    /// `where`: tells the caret's place, and where it stands on the pages of the last view.
+    fn tell(&self, alloc: Global) -> Result<String, NoMemory>
+        ensures { IfOk result (λ text. string_bytes text ≡ reply_text (told self.now self.now.caret).1) }
+    {
+        let Some(caret) = self.caret else {
+            return reply_line(alloc, Err(Rule::NoCaret));
+        };
+        let line = told_line(alloc, caret.place, self.standing(caret))?;
+        Ok(line)
+    }
+
+    /// Where a caret stands.
+    fn standing(&self, caret: Caret) -> Standing
+        ensures { standing_of result ≡ standing caret self.now.stops self.now.since }
+    {
+        if !self.since.is_empty() {
+            return Standing::Stale;
+        }
+        match &self.view {
+            Some(boundaries) => match column_of(boundaries.as_slice(), caret) {
+                Some(column) => Standing::Shown(column),
+                None => Standing::Hidden,
+            },
+            None => Standing::Hidden,
+        }
+    }
+
+    /// `source`: the tree lines of the present source.
+    fn write_source(&self, alloc: Global) -> Result<String, NoMemory>
+        ensures { IfOk result (λ text. string_bytes text ≡ reply_text (obeyed self.now command.Tree).1) }
+    {
+        let lines = self.source.lines(alloc, &self.names)?;
+        let text = String::from_str(alloc, lines.as_text())?;
+        Ok(text)
+    }
+
+    /// `show`: prints the view of the present source, and keeps its stops.
+    fn show(&mut self, alloc: Global) -> Result<String, NoMemory>
+        ensures state { OnOk result (self.new ≡ shown self.old) }
+        ensures answer { IfOk result (λ text. string_bytes text ≡ reply_text (obeyed self.old command.Show).1) }
+    {
+        let view = view_of(alloc, &self.source)?;
+        self.view = Some(view.boundaries);
+        self.since.clear();
+        Ok(view.line)
+    }
+
+    /// `at`: puts the caret at the first stop there that is at a place, carried through the prims since the show.
+    fn put_at(&mut self, page: u32, line: u32, column: u32) -> Result<(), Rule>
+        ensures state { self.new ≡ (put_at self.old page line column self.old.stops).0 }
+        ensures answer { reply_of result ≡ (put_at self.old page line column self.old.stops).1 }
+    {
+        let Some(boundaries) = &self.view else {
+            return Err(Rule::NoView);
+        };
+        if page != 1 || line != 1 {
+            return Err(Rule::NoPlace);
+        }
+        let caret = caret_at(boundaries.as_slice(), column as usize)?;
+        let place = self.carried_place(caret.place);
+        self.caret = Some(Caret {
+            place,
+            occurrence: caret.occurrence,
+        });
+        Ok(())
+    }
+
+    /// Where a place of the last view is in the present source.
+    fn carried_place(&self, place: CaretPlace) -> CaretPlace
+        requires { IsPlaceOf self.now.source (carried_through self.now.since place) }
+        ensures { result ≡ carried_through self.now.since place }
+    {
+        let mut place = place;
+        for prim in &self.since {
+            place = carried(prim, place);
+        }
+        place
+    }
+
+    /// What `type` is answered.
+    fn answer_typing(&mut self, alloc: Global, text: &str) -> Result<String, NoMemory>
+        requires { chars text.now ≢ [] }
+        ensures state { OnOk result (self.new ≡ (typed self.old (chars text.now) self.old.caret).0) }
+        ensures answer { IfOk result (λ line. string_bytes line ≡ reply_text (typed self.old (chars text.now) self.old.caret).1) }
+    {
+        match self.type_text(alloc, text) {
+            Ok(()) => {
+                let line = reply_line(alloc, Ok(()))?;
+                Ok(line)
+            }
+            Err(TypeFault::Rule(rule)) => {
+                let line = reply_line(alloc, Err(rule))?;
+                Ok(line)
+            }
+            Err(TypeFault::NoMemory) => Err(AllocError),
+        }
+    }
+
+    /// `type`: puts characters in at the caret, which then stands behind them.
+    fn type_text(&mut self, alloc: Global, text: &str) -> Result<(), TypeFault>
+        requires { chars text.now ≢ [] }
+        ensures ok { OnOk result (typed self.old (chars text.now) self.old.caret ≡ (self.new, Done)) }
+        ensures refused { IfErr result (IsRefusal (self.new ≡ self.old) (λ rule. typed self.old (chars text.now) self.old.caret ≡ (self.old, Refused (rule_of rule)))) }
+    {
+        let Some(caret) = self.caret else {
+            return Err(TypeFault::Rule(Rule::NoCaret));
+        };
+        match caret.place {
+            CaretPlace::Text(node, at) => {
+                self.type_into_text(alloc, text, node, at, caret.occurrence)?;
+                Ok(())
+            }
+            CaretPlace::Into(node) => {
+                self.type_into_element(alloc, text, node, caret.occurrence)?;
+                Ok(())
+            }
+        }
+    }
+
+    /// Puts characters into a text node.
+    fn type_into_text(
+        &mut self,
+        alloc: Global,
+        text: &str,
+        node: NodeName,
+        at: usize,
+        occurrence: usize,
+    ) -> Result<(), TypeFault>
+        requires some { chars text.now ≢ [] }
+        requires place { IsPlaceOf self.old.source (place.Text node at) }
+        ensures ok { OnOk result (typed_at self.old (chars text.now) (place.Text node at) occurrence ≡ (self.new, Done)) }
+        ensures refused { IfErr result (IsRefusal (self.new ≡ self.old) (λ rule. typed_at self.old (chars text.now) (place.Text node at) occurrence ≡ (self.old, Refused (rule_of rule)))) }
+    {
+        let room = MAX_TEXT_BYTES.saturating_sub(text_len(&self.source, node));
+        if byte_len(text) > room {
+            return Err(TypeFault::Rule(Rule::Long));
+        }
+        if self.revision >= MAX_REVISIONS {
+            return Err(TypeFault::Rule(Rule::Revisions));
+        }
+        let prim = Primitive::InsertText(node, at, Chars::from_text(alloc, text)?);
+        self.change(
+            alloc,
+            prim,
+            CaretPlace::Text(node, at + byte_len(text)),
+            occurrence,
+        )?;
+        Ok(())
+    }
+
+    /// Makes characters the first child of an element, as a new text.
+    fn type_into_element(
+        &mut self,
+        alloc: Global,
+        text: &str,
+        node: NodeName,
+        occurrence: usize,
+    ) -> Result<(), TypeFault>
+        requires some { chars text.now ≢ [] }
+        requires place { IsPlaceOf self.old.source (place.Into node) }
+        ensures ok { OnOk result (typed_at self.old (chars text.now) (place.Into node) occurrence ≡ (self.new, Done)) }
+        ensures refused { IfErr result (IsRefusal (self.new ≡ self.old) (λ rule. typed_at self.old (chars text.now) (place.Into node) occurrence ≡ (self.old, Refused (rule_of rule)))) }
+    {
+        if byte_len(text) > MAX_TEXT_BYTES {
+            return Err(TypeFault::Rule(Rule::Long));
+        }
+        let made = self.source.made();
+        if made >= MAX_NODES {
+            return Err(TypeFault::Rule(Rule::Nodes));
+        }
+        if self.revision >= MAX_REVISIONS {
+            return Err(TypeFault::Rule(Rule::Revisions));
+        }
+        let number = NodeName(made + 1);
+        let mut items = Items::new(alloc);
+        items.push(SubItem::Text(number, Chars::from_text(alloc, text)?))?;
+        let prim = Primitive::InsertChild(node, 0, items);
+        self.change(
+            alloc,
+            prim,
+            CaretPlace::Text(number, byte_len(text)),
+            occurrence,
+        )?;
+        Ok(())
+    }
+
+    /// Accepts a change by one prim, and puts the caret at a place of what it leaves.
+    fn change(
+        &mut self,
+        alloc: Global,
+        prim: Primitive,
+        place: CaretPlace,
+        occurrence: usize,
+    ) -> Result<(), NoMemory>
+        requires may { MayApply prim self.old.source }
+        requires sound { IsSomeSound (changed self.old prim place occurrence) }
+        requires few { self.old.revision < 50000 }
+        ensures ok { OnOk result (self.new ≡ changed self.old prim place occurrence) }
+        ensures kept { OnErr result (self.new ≡ self.old) }
+    {
+        self.since.reserve(1)?;
+        self.source.apply(alloc, &prim)?;
+        self.since.push(prim).unwrap();
+        self.revision += 1;
+        self.caret = Some(Caret { place, occurrence });
+        Ok(())
+    }
+}
+
+/// The column of a caret's boundary: that of its occurrence among those at its place, or of the last of them.
+fn column_of(boundaries: &[Boundary], caret: Caret) -> Option<usize>
+    ensures { standing_at (nearest None caret.occurrence (filter (stands_for caret.place) (stops_of boundaries.now))) ≡ shown_at result }
+{
+    let mut column = None;
+    let mut count = 0;
+    for here in boundaries {
+        if !comes_from(caret.place, here) {
+            continue;
+        }
+        count += 1;
+        column = Some(here.column);
+        if count == caret.occurrence {
+            return column;
+        }
+    }
+    column
+}
+
+/// The caret at the first boundary in a column that is at a place. Where none is at a place, what stands there says why.
+fn caret_at(boundaries: &[Boundary], column: usize) -> Result<Caret, Rule>
+    ensures { (editor : Editor) → put_among editor (filter (stands_at 1 1 column) (stops_of boundaries.now)) ≡ taken editor result }
+{
+    match first_caret(boundaries, column) {
+        Some(index) => Ok(caret_of(boundaries, index)),
+        None if has_column(boundaries, column) => Err(Rule::FixedText),
+        None => Err(Rule::NoPlace),
+    }
+}
+
+/// The first boundary in a column that is at a place.
+fn first_caret(boundaries: &[Boundary], column: usize) -> Option<usize>
+    ensures { result ≡ position (is_caret_in column) boundaries.now }
+{
+    boundaries.iter().position(|here| is_place_in(here, column))
+}
+
+/// Whether a boundary is in a column.
+fn has_column(boundaries: &[Boundary], column: usize) -> bool
+    ensures { result ≡ list_any (λ here. here.column == column) boundaries.now }
+{
+    boundaries.iter().any(|here| here.column == column)
+}
+
+/// Whether a boundary is in a column, and at a place.
+fn is_place_in(here: &Boundary, column: usize) -> bool
+    ensures { result ≡ is_caret_in column here.now }
+{
+    here.column == column && is_place(here.origin)
+}
+
+fn is_place(origin: Origin) -> bool
+    ensures { result ≡ is_place origin }
+{
+    match origin {
+        Origin::At(_) => true,
+        Origin::Fixed(_) => false,
+    }
+}
+
+/// The caret at one of the boundaries, which is at a place: its occurrence is its number, from 1, among those of this place.
+fn caret_of(boundaries: &[Boundary], index: usize) -> Caret
+    requires within { index < length boundaries.now }
+    requires place { IsTrue (is_place_at boundaries.now index) }
+    ensures { IsCaretAt boundaries.now index result }
+{
+    match boundaries[index].origin {
+        Origin::At(place) => Caret {
+            place,
+            occurrence: 1 + count_of(&boundaries[..index], place),
+        },
+        Origin::Fixed(_) => unreachable!(),
+    }
+}
+
+/// How many boundaries are at a place.
+fn count_of(boundaries: &[Boundary], place: CaretPlace) -> usize
+    ensures value { result ≡ length (filter (comes_from place) (boundaries_of boundaries.now)) }
+    ensures most { result ≤ length boundaries.now }
+{
+    let mut count = 0;
+    for here in boundaries {
+        if comes_from(place, here) {
+            count += 1;
+        }
+    }
+    count
+}
+
+fn comes_from(place: CaretPlace, here: &Boundary) -> bool
+    ensures { result ≡ comes_from place (boundary_of here.now) }
+{
+    match here.origin {
+        Origin::At(other) => is_same_place(place, other),
+        Origin::Fixed(_) => false,
+    }
+}
+
+/// How many bytes a text node has.
+fn text_len(source: &SourceTree, node: NodeName) -> usize
+    ensures { (text : List ℕ) → text_at source.now node.0 ≡ Some text → result ≡ bytes_of text }
+{
+    match source.read(Cell {
+        node,
+        facet: Facet::Text,
+    }) {
+        Some(CellValue::Text(text)) => byte_len(text),
+        Some(CellValue::Label(_, _)) => 0,
+        Some(CellValue::Kids(_)) => 0,
+        Some(CellValue::Up(_)) => 0,
+        Some(CellValue::Attrs(_)) => 0,
+        None => 0,
+    }
+}
+
+/// The bytes of a text.
+fn byte_len(text: &str) -> usize
+    ensures { result ≡ bytes_of (chars text.now) }
+{
+    text.len()
+}

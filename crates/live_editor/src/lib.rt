@@ -1,0 +1,10 @@
+//! The editor in memory: one source, a caret and the stops of the last view. It obeys command lines.
+#![tactic(auto)]
+
+mod command;
+mod editor;
+mod place;
+mod reply;
+mod view;
+
+pub use editor::Editor;

@@ -1,0 +1,278 @@
+-- A place of the source, carried through a prim, is one of the source that the prim leaves.
+use Rattle.std.proofs.Common.{◌≡◌, ℕ, zero, suc, ◌+◌, ◌≤◌, ◌==◌, ◌⊎◌, inl, inr, Bool, true, false, List, [], ◌∷◌, length, max, Option, Some, None, if◌then◌else◌, refl, sym, ap, ◌∙◌, subst, arith}
+use Rattle.std.proofs.lemmas.Bool.{cases_eq}
+use Rattle.std.proofs.lemmas.Option.{none-some}
+use Rattle.std.proofs.lemmas.Bool.{false≢true}
+use Rattle.std.specs.Option.{option_map, option_and_then}
+use Rattle.serna_kinds.specs.declared.cells.NodeName.{NodeName}
+use Rattle.serna_kinds.specs.Names.{NameParts}
+use Rattle.serna_kinds.specs.Texts.{IsPlaceIn, inserted}
+use Rattle.source_model.specs.Source.{Body, Forest, Source, numbers}
+use Rattle.source_model.specs.Source as source
+use Rattle.source_model.specs.Cells.{Spot, spot_of}
+use Rattle.source_model.specs.Changes.{characters, with_characters, text_at, with_text, with_kids, inserted_at, greatest}
+use Rattle.source_model.specs.Proper.{uses, BeginsNoText, IsProper}
+use Rattle.source_model.proofs.Spots.{if_same, if_other, text_spot, kids_spot, spot_in-with_text, spot_in-with_kids, spot_in-new, used-from_spot, leaf}
+use Rattle.source_tree.specs.declared.prim.Primitive.{Primitive}
+use Rattle.source_tree.specs.declared.prim.Primitive.TheVariants.{InsertText, RemoveText, InsertChild, RemoveChild}
+use Rattle.source_tree.specs.declared.prim.SubItem.{SubItem}
+use Rattle.source_tree.specs.declared.prim.SubItem.TheVariants as item
+use Rattle.source_tree.specs.declared.prim.CaretPlace.{CaretPlace}
+use Rattle.source_tree.specs.declared.prim.CaretPlace.TheVariants.{Text, Into}
+use Rattle.source_tree.specs.Prims.{applied, with_tree, MayApply, HasRoom, HasPlace, IsNewLeaf, IsElement}
+use Rattle.source_tree.specs.Places.{IsPlaceOf, carried, behind_insertion}
+use Rattle.plain_editor.proofs.TextPlaces.{size, place_carried, place_behind, place_start, place_end}
+
+abbrev chars_of : Spot → Option (List ℕ)
+chars_of spot = characters spot.body
+
+-- the characters of a text node after a change
+text_after : (n m : ℕ) (change : List ℕ → List ℕ) (u t : List ℕ) → u ≡ t → ((n ≡ m) ⊎ (n ≡ m → ⊥)) →
+    characters (if n == m then source.Text (change u) else source.Text u) ≡ Some (if n == m then change t else t)
+text_after n m change u t same (inl e) =
+    ap characters (if_same n m (source.Text (change u)) (source.Text u) e) ∙ ap (λ v. Some (change v)) same ∙ ap Some (sym (if_same n m (change t) t e))
+text_after n m change u t same (inr e) =
+    ap characters (if_other n m (source.Text (change u)) (source.Text u) e) ∙ ap Some same ∙ ap Some (sym (if_other n m (change t) t e))
+
+body_after : (n m : ℕ) (change : List ℕ → List ℕ) (body : Body) (t : List ℕ) → characters body ≡ Some t →
+    characters (if n == m then with_characters change body else body) ≡ Some (if n == m then change t else t)
+body_after n m change source.Root t e = absurd (none-some t e)
+body_after n m change (source.Element name attributes) t e = absurd (none-some t e)
+body_after n m change (source.Text u) t e = let same : u ≡ t = cc in text_after n m change u t same (cases_eq n m)
+body_after n m change (source.Comment u) t e = absurd (none-some t e)
+
+found_after : (n m : ℕ) (change : List ℕ → List ℕ) (found : Option Spot) (t : List ℕ) → option_and_then chars_of found ≡ Some t →
+    option_and_then chars_of (option_map (text_spot n change m) found) ≡ Some (if n == m then change t else t)
+found_after n m change None t e = absurd (none-some t e)
+found_after n m change (Some spot) t e = body_after n m change spot.body t e
+
+pub text_at-with_text : (n m : ℕ) (change : List ℕ → List ℕ) (s : Source) (t : List ℕ) → text_at s m ≡ Some t →
+    text_at (with_tree s (with_text n change s.tree)) m ≡ Some (if n == m then change t else t)
+text_at-with_text n m change s t e =
+    ap (option_and_then chars_of) (spot_in-with_text None n change m s.tree) ∙ found_after n m change (spot_of s m) t e
+
+-- an element without children after a change of characters
+element_after : (n m : ℕ) (change : List ℕ → List ℕ) (body : Body) → IsElement body → IsElement (if n == m then with_characters change body else body)
+element_after n m change source.Root is = absurd is
+element_after n m change (source.Element name attributes) is = elim (cases_eq n m) [
+  | inl e ↦ subst IsElement (sym (if_same n m (source.Element name attributes) (source.Element name attributes) e)) tt
+  | inr e ↦ subst IsElement (sym (if_other n m (source.Element name attributes) (source.Element name attributes) e)) tt
+]
+element_after n m change (source.Text t) is = absurd is
+element_after n m change (source.Comment t) is = absurd is
+
+-- a place after an insertion of characters
+text_place_kept : (n m at from : ℕ) (piece t u : List ℕ) → IsPlaceIn u from → (m ≡ n → t ≡ u) → IsPlaceIn t at → ((m ≡ n) ⊎ (m ≡ n → ⊥)) → ((n ≡ m) ⊎ (n ≡ m → ⊥)) →
+    IsPlaceIn (if n == m then inserted from piece t else t) (if m == n then behind_insertion from (size piece) at else at)
+text_place_kept n m at from piece t u f same p (inl e) (inl g) =
+    subst (λ k. IsPlaceIn (if n == m then inserted from piece t else t) k) (sym (if_same m n (behind_insertion from (size piece) at) at e))
+    (subst (λ v. IsPlaceIn v (behind_insertion from (size piece) at)) (sym (if_same n m (inserted from piece t) t g))
+    (place_carried t piece from at (subst (λ v. IsPlaceIn v from) (sym (same e)) f) p))
+text_place_kept n m at from piece t u f same p (inl e) (inr g) = absurd (g (sym e))
+text_place_kept n m at from piece t u f same p (inr e) (inl g) = absurd (e (sym g))
+text_place_kept n m at from piece t u f same p (inr e) (inr g) =
+    subst (λ k. IsPlaceIn (if n == m then inserted from piece t else t) k) (sym (if_other m n (behind_insertion from (size piece) at) at e))
+    (subst (λ v. IsPlaceIn v at) (sym (if_other n m (inserted from piece t) t g)) p)
+
+-- neighbours that begin with no text, after a change
+begins_after : (n : ℕ) (change : List ℕ → List ℕ) (kids : Forest) → BeginsNoText kids → BeginsNoText (with_text n change kids)
+begins_after n change source.none h = tt
+begins_after n change (source.node k source.Root kids rest) h = elim (cases_eq n k) [
+  | inl e ↦ subst (λ b. BeginsNoText (source.node k b (with_text n change kids) (with_text n change rest))) (sym (if_same n k source.Root source.Root e)) tt
+  | inr e ↦ subst (λ b. BeginsNoText (source.node k b (with_text n change kids) (with_text n change rest))) (sym (if_other n k source.Root source.Root e)) tt
+]
+begins_after n change (source.node k (source.Element name attributes) kids rest) h = elim (cases_eq n k) [
+  | inl e ↦ subst (λ b. BeginsNoText (source.node k b (with_text n change kids) (with_text n change rest))) (sym (if_same n k (source.Element name attributes) (source.Element name attributes) e)) tt
+  | inr e ↦ subst (λ b. BeginsNoText (source.node k b (with_text n change kids) (with_text n change rest))) (sym (if_other n k (source.Element name attributes) (source.Element name attributes) e)) tt
+]
+begins_after n change (source.node k (source.Text t) kids rest) h = absurd h
+begins_after n change (source.node k (source.Comment t) kids rest) h = elim (cases_eq n k) [
+  | inl e ↦ subst (λ b. BeginsNoText (source.node k b (with_text n change kids) (with_text n change rest))) (sym (if_same n k (source.Comment t) (source.Comment t) e)) tt
+  | inr e ↦ subst (λ b. BeginsNoText (source.node k b (with_text n change kids) (with_text n change rest))) (sym (if_other n k (source.Comment t) (source.Comment t) e)) tt
+]
+
+begins_same : (p : ℕ) (change : Forest → Forest) (kids : Forest) → BeginsNoText kids → BeginsNoText (with_kids p change kids)
+begins_same p change source.none h = tt
+begins_same p change (source.node k source.Root kids rest) h = tt
+begins_same p change (source.node k (source.Element name attributes) kids rest) h = tt
+begins_same p change (source.node k (source.Text t) kids rest) h = absurd h
+begins_same p change (source.node k (source.Comment t) kids rest) h = tt
+
+begins_inserted : (i : ℕ) (others kids : Forest) → BeginsNoText kids → suc i ≤ length (numbers kids) → BeginsNoText (inserted_at (suc i) others kids)
+begins_inserted i others source.none h within = absurd (omega (arith, within))
+begins_inserted i others (source.node k source.Root kids rest) h within = tt
+begins_inserted i others (source.node k (source.Element name attributes) kids rest) h within = tt
+begins_inserted i others (source.node k (source.Text t) kids rest) h within = absurd h
+begins_inserted i others (source.node k (source.Comment t) kids rest) h within = tt
+
+-- a number that was found was made
+found_made : (names : List NameParts) (s : Source) (n : ℕ) (spot : Spot) → IsProper names s → spot_of s n ≡ Some spot → n ≤ s.made
+found_made names s n spot proper found = proper.numbered n (used-from_spot None n spot s.tree found)
+
+text_spot_of : (found : Option Spot) (t : List ℕ) → option_and_then chars_of found ≡ Some t → (spot : Spot) × (found ≡ Some spot) × (characters spot.body ≡ Some t)
+text_spot_of None t e = absurd (none-some t e)
+text_spot_of (Some spot) t e = (spot, refl, e)
+
+-- characters after an insertion of a child
+pub text_at-with_kids : (p m k i : ℕ) (body : Body) (made : ℕ) (s : Source) (t : List ℕ) → (m ≡ k → ⊥) → uses p s.tree ≤ 1 → text_at s m ≡ Some t →
+    text_at (record { tree = with_kids p (inserted_at i (leaf k body)) s.tree; made = made; spaces = s.spaces }) m ≡ Some t
+text_at-with_kids p m k i body made s t other once e =
+    let found = text_spot_of (spot_of s m) t e in
+    ap (option_and_then chars_of) (spot_in-with_kids None p m k i body s.tree other once ∙ ap (option_map (kids_spot p (inserted_at i (leaf k body)) m)) found.1) ∙ found.2
+
+-- a place, carried through an insertion of characters
+insert_text_kept : (s : Source) (n : NodeName) (from : ℕ) (piece : List ℕ) (place : CaretPlace) → HasRoom s n.0 from (size piece) → IsPlaceOf s place →
+    IsPlaceOf (with_tree s (with_text n.0 (inserted from piece) s.tree)) (carried (InsertText n from piece) place)
+insert_text_kept s n from piece (Text m at) room is =
+    let same : m.0 ≡ n.0 → is.0 ≡ room.0 = λ e. let both : Some is.0 ≡ Some room.0 = sym is.1 ∙ ap (text_at s) e ∙ room.1 in cc in (
+      if n.0 == m.0 then inserted from piece is.0 else is.0,
+      text_at-with_text n.0 m.0 (inserted from piece) s is.0 is.1,
+      text_place_kept n.0 m.0 at from piece is.0 room.0 room.2 same is.2 (cases_eq m.0 n.0) (cases_eq n.0 m.0),
+    )
+insert_text_kept s n from piece (Into m) room is = (
+  text_spot n.0 (inserted from piece) m.0 is.0,
+  spot_in-with_text None n.0 (inserted from piece) m.0 s.tree ∙ ap (option_map (text_spot n.0 (inserted from piece) m.0)) is.1,
+  element_after n.0 m.0 (inserted from piece) is.0.body is.2,
+  begins_after n.0 (inserted from piece) is.0.kids is.3,
+)
+
+-- the inside of an element, after an insertion of a child into another element, or behind its first child
+into_kept : (p m k i : ℕ) (body : Body) (made : ℕ) (s : Source) (spot : Spot) → (m ≡ k → ⊥) → uses p s.tree ≤ 1 → spot_of s m ≡ Some spot → IsElement spot.body →
+    BeginsNoText (if p == m then inserted_at i (leaf k body) spot.kids else with_kids p (inserted_at i (leaf k body)) spot.kids) →
+    IsPlaceOf (record { tree = with_kids p (inserted_at i (leaf k body)) s.tree; made = made; spaces = s.spaces }) (Into (record { 0 = m }))
+into_kept p m k i body made s spot other once found is begins =
+    (kids_spot p (inserted_at i (leaf k body)) m spot, spot_in-with_kids None p m k i body s.tree other once ∙ ap (option_map (kids_spot p (inserted_at i (leaf k body)) m)) found, is, begins)
+
+-- the source with a leaf put in
+abbrev with_leaf : Source → ℕ → ℕ → ℕ → Body → ℕ → Source
+with_leaf s p i k body made = record { tree = with_kids p (inserted_at i (leaf k body)) s.tree; made = made; spaces = s.spaces }
+
+-- where the new leaf stands, and where the others do
+record IsNew (names : List NameParts) (s : Source) (p k i : ℕ) : Type 0 where
+  proper : IsProper names s
+  number : k ≡ s.made + 1
+  parent : Spot
+  found : spot_of s p ≡ Some parent
+  within : i ≤ length (numbers parent.kids)
+
+apart : (names : List NameParts) (s : Source) (p k i m : ℕ) (spot : Spot) → IsNew names s p k i → spot_of s m ≡ Some spot → m ≡ k → ⊥
+apart names s p k i m spot new found e = let made = found_made names s m spot new.proper found in absurd (omega (arith, made, new.number, e))
+
+unused_by : (names : List NameParts) (s : Source) (p k i : ℕ) → IsNew names s p k i → (u : ℕ) → u ≡ uses k s.tree → uses k s.tree ≡ 0
+unused_by names s p k i new zero e = sym e
+unused_by names s p k i new (suc u) e = let made = new.proper.numbered k (omega (arith, e)) in absurd (omega (arith, made, new.number))
+
+unused : (names : List NameParts) (s : Source) (p k i : ℕ) → IsNew names s p k i → uses k s.tree ≡ 0
+unused names s p k i new = unused_by names s p k i new (uses k s.tree) refl
+
+-- a place in a text
+leaf_text : (names : List NameParts) (s : Source) (p k i : ℕ) (body : Body) (made : ℕ) (m : NodeName) (at : ℕ) → IsNew names s p k i → IsPlaceOf s (Text m at) →
+    IsPlaceOf (with_leaf s p i k body made) (Text m at)
+leaf_text names s p k i body made m at new is =
+    let found = text_spot_of (spot_of s m.0) is.0 is.1 in
+    (is.0, text_at-with_kids p m.0 k i body made s is.0 (apart names s p k i m.0 found.0 new found.1) (new.proper.distinct p) is.1, is.2)
+
+-- the inside of another element
+leaf_other : (names : List NameParts) (s : Source) (p k i : ℕ) (body : Body) (made : ℕ) (m : NodeName) → IsNew names s p k i → IsPlaceOf s (Into m) → (p ≡ m.0 → ⊥) →
+    IsPlaceOf (with_leaf s p i k body made) (Into m)
+leaf_other names s p k i body made m new is e =
+    into_kept p m.0 k i body made s is.0 (apart names s p k i m.0 is.0 new is.1) (new.proper.distinct p) is.1 is.2
+    (subst BeginsNoText (sym (if_other p m.0 (inserted_at i (leaf k body) is.0.kids) (with_kids p (inserted_at i (leaf k body)) is.0.kids) e)) (begins_same p (inserted_at i (leaf k body)) is.0.kids is.3))
+
+-- the inside of the element itself, where it begins with no text
+leaf_own : (names : List NameParts) (s : Source) (p k i : ℕ) (body : Body) (made : ℕ) (m : NodeName) → IsNew names s p k i → (is : IsPlaceOf s (Into m)) → p ≡ m.0 →
+    BeginsNoText (inserted_at i (leaf k body) is.0.kids) → IsPlaceOf (with_leaf s p i k body made) (Into m)
+leaf_own names s p k i body made m new is e begins =
+    into_kept p m.0 k i body made s is.0 (apart names s p k i m.0 is.0 new is.1) (new.proper.distinct p) is.1 is.2
+    (subst BeginsNoText (sym (if_same p m.0 (inserted_at i (leaf k body) is.0.kids) (with_kids p (inserted_at i (leaf k body)) is.0.kids) e)) begins)
+
+leaf_behind : (names : List NameParts) (s : Source) (p k i : ℕ) (body : Body) (made : ℕ) (m : NodeName) → IsNew names s p k (suc i) → (is : IsPlaceOf s (Into m)) → p ≡ m.0 →
+    IsPlaceOf (with_leaf s p (suc i) k body made) (Into m)
+leaf_behind names s p k i body made m new is e =
+    let both : Some new.parent ≡ Some is.0 = sym new.found ∙ ap (spot_of s) e ∙ is.1 in
+    let same : new.parent ≡ is.0 = cc in
+    leaf_own names s p k (suc i) body made m new is e
+    (begins_inserted i (leaf k body) is.0.kids is.3 (subst (λ (spot : Spot). suc i ≤ length (numbers spot.kids)) same new.within))
+
+-- the new text
+new_text : (names : List NameParts) (s : Source) (p i made : ℕ) (number : NodeName) (t : List ℕ) → IsNew names s p number.0 i →
+    text_at (with_leaf s p i number.0 (source.Text t) made) number.0 ≡ Some t
+new_text names s p i made number t new =
+    ap (option_and_then chars_of) (spot_in-new None p number.0 i (source.Text t) s.tree (unused names s p number.0 i new) (used-from_spot None p new.parent s.tree new.found))
+
+-- its start
+new_start : (names : List NameParts) (s : Source) (p i made : ℕ) (number : NodeName) (t : List ℕ) → IsNew names s p number.0 i →
+    IsPlaceOf (with_leaf s p i number.0 (source.Text t) made) (Text number 0)
+new_start names s p i made number t new = (t, new_text names s p i made number t new, place_start t)
+
+abbrev IsPlaceIf : Source → ℕ → ℕ → CaretPlace → CaretPlace → Type 0
+IsPlaceIf s m p yes_place no_place = IsPlaceOf s (if m == p then yes_place else no_place)
+
+by_parent : (s : Source) (m p : ℕ) (x y : CaretPlace) → ((m ≡ p) ⊎ (m ≡ p → ⊥)) → (m ≡ p → IsPlaceOf s x) → ((m ≡ p → ⊥) → IsPlaceOf s y) → IsPlaceIf s m p x y
+by_parent s m p x y (inl e) f g = subst (IsPlaceOf s) (sym (if_same m p x y e)) (f e)
+by_parent s m p x y (inr e) f g = subst (IsPlaceOf s) (sym (if_other m p x y e)) (g e)
+
+text_child_kept : (names : List NameParts) (s : Source) (p : NodeName) (i made : ℕ) (number : NodeName) (t : List ℕ) (place : CaretPlace) → IsNew names s p.0 number.0 i → IsPlaceOf s place →
+    IsPlaceOf (with_leaf s p.0 i number.0 (source.Text t) made) (carried (InsertChild p i (item.Text number t ∷ [])) place)
+text_child_kept names s p i made number t (Text m at) new is = leaf_text names s p.0 number.0 i (source.Text t) made m at new is
+text_child_kept names s p zero made number t (Into m) new is =
+    by_parent (with_leaf s p.0 zero number.0 (source.Text t) made) m.0 p.0 (Text number 0) (Into m) (cases_eq m.0 p.0) (λ e. new_start names s p.0 zero made number t new)
+    (λ e. leaf_other names s p.0 number.0 zero (source.Text t) made m new is (λ f. e (sym f)))
+text_child_kept names s p (suc i) made number t (Into m) new is =
+    by_parent (with_leaf s p.0 (suc i) number.0 (source.Text t) made) m.0 p.0 (Into m) (Into m) (cases_eq m.0 p.0)
+    (λ e. leaf_behind names s p.0 number.0 i (source.Text t) made m new is (sym e))
+    (λ e. leaf_other names s p.0 number.0 (suc i) (source.Text t) made m new is (λ f. e (sym f)))
+
+comment_child_kept : (names : List NameParts) (s : Source) (p : NodeName) (i made : ℕ) (number : NodeName) (t : List ℕ) (place : CaretPlace) → IsNew names s p.0 number.0 i → IsPlaceOf s place →
+    IsPlaceOf (with_leaf s p.0 i number.0 (source.Comment t) made) (carried (InsertChild p i (item.Comment number t ∷ [])) place)
+comment_child_kept names s p i made number t (Text m at) new is = leaf_text names s p.0 number.0 i (source.Comment t) made m at new is
+comment_child_kept names s p zero made number t (Into m) new is =
+    by_parent (with_leaf s p.0 zero number.0 (source.Comment t) made) m.0 p.0 (Into m) (Into m) (cases_eq m.0 p.0) (λ e. leaf_own names s p.0 number.0 zero (source.Comment t) made m new is (sym e) tt)
+    (λ e. leaf_other names s p.0 number.0 zero (source.Comment t) made m new is (λ f. e (sym f)))
+comment_child_kept names s p (suc i) made number t (Into m) new is =
+    by_parent (with_leaf s p.0 (suc i) number.0 (source.Comment t) made) m.0 p.0 (Into m) (Into m) (cases_eq m.0 p.0)
+    (λ e. leaf_behind names s p.0 number.0 i (source.Comment t) made m new is (sym e))
+    (λ e. leaf_other names s p.0 number.0 (suc i) (source.Comment t) made m new is (λ f. e (sym f)))
+
+abbrev are_none : List SubItem → Bool
+are_none [] = true
+are_none (x ∷ items) = false
+
+some_items : (x : SubItem) (items : List SubItem) → x ∷ items ≡ [] → ⊥
+some_items x items e = false≢true (ap are_none e)
+
+child_kept : (names : List NameParts) (s : Source) (p : NodeName) (i : ℕ) (items : List SubItem) (place : CaretPlace) → IsProper names s → HasPlace s p.0 i → IsNewLeaf s.made items → IsPlaceOf s place →
+    IsPlaceOf (applied (InsertChild p i items) s) (carried (InsertChild p i items) place)
+child_kept names s p i [] place proper has new is = absurd new
+child_kept names s p i (item.Begin number name attributes ∷ items) place proper has new is = absurd new
+child_kept names s p i (item.Text number t ∷ []) place proper has new is =
+    text_child_kept names s p i (max s.made (greatest (leaf number.0 (source.Text t)))) number t place (record { proper = proper; number = new.0; parent = has.0; found = has.1; within = has.3 }) is
+child_kept names s p i (item.Text number t ∷ x ∷ items) place proper has new is = let e : x ∷ items ≡ [] = new.2 in absurd (some_items x items e)
+child_kept names s p i (item.Comment number t ∷ []) place proper has new is =
+    comment_child_kept names s p i (max s.made (greatest (leaf number.0 (source.Comment t)))) number t place (record { proper = proper; number = new.0; parent = has.0; found = has.1; within = has.3 }) is
+child_kept names s p i (item.Comment number t ∷ x ∷ items) place proper has new is = let e : x ∷ items ≡ [] = new.1 in absurd (some_items x items e)
+child_kept names s p i (item.Finish ∷ items) place proper has new is = absurd new
+
+-- a place of a source, carried through a prim, is one of the source that the prim leaves
+pub place_kept : (names : List NameParts) (s : Source) (prim : Primitive) (place : CaretPlace) → IsProper names s → MayApply prim s → IsPlaceOf s place → IsPlaceOf (applied prim s) (carried prim place)
+place_kept names s (InsertText n from piece) place proper may is = insert_text_kept s n from piece place may is
+place_kept names s (RemoveText n from to) place proper may is = absurd may
+place_kept names s (InsertChild p i items) place proper may is = child_kept names s p i items place proper may.0 may.1 is
+place_kept names s (RemoveChild p i) place proper may is = absurd may
+
+-- the place behind the characters that were put in
+pub behind_piece : (s : Source) (n : NodeName) (from : ℕ) (piece : List ℕ) → HasRoom s n.0 from (size piece) → IsPlaceOf (applied (InsertText n from piece) s) (Text n (from + size piece))
+behind_piece s n from piece room = (
+  inserted from piece room.0,
+  text_at-with_text n.0 n.0 (inserted from piece) s room.0 room.1 ∙ ap Some (if_same n.0 n.0 (inserted from piece room.0) room.0 refl),
+  place_behind room.0 piece from room.2,
+)
+
+-- and behind those of a new text
+pub behind_new : (names : List NameParts) (s : Source) (p number : NodeName) (i : ℕ) (t : List ℕ) → IsProper names s → HasPlace s p.0 i → number.0 ≡ s.made + 1 →
+    IsPlaceOf (applied (InsertChild p i (item.Text number t ∷ [])) s) (Text number (size t))
+behind_new names s p number i t proper has e =
+    let new : IsNew names s p.0 number.0 i = record { proper = proper; number = e; parent = has.0; found = has.1; within = has.3 } in
+    (t, new_text names s p.0 i (max s.made (greatest (leaf number.0 (source.Text t)))) number t new, place_end t)
+
+pub ruleset all = text_at-with_text

@@ -1,0 +1,253 @@
+-- Each step keeps the editor sound.
+use Rattle.std.proofs.Common.{◌≡◌, ◌≢◌, ℕ, ◌+◌, ◌<◌, ◌≤◌, ◌⊎◌, inl, inr, Bool, true, false, List, [], ◌∷◌, ◌++◌, filter, filter_map, Option, Some, None, encode_utf8_all, if◌then◌else◌, refl, sym, ap, ◌∙◌, subst, arith, bytes_eq}
+use Rattle.std.proofs.lemmas.Bool.{cases_eq, false≢true, ltb-false, leb-false}
+use Rattle.std.proofs.lemmas.Option.{none-some}
+use Rattle.std.proofs.lemmas.Str.{encodes-chars, IsUtf8-from_ascii}
+use Rattle.std.specs.List.{AllByRecursion, cons_option}
+use Rattle.std.specs.Str.{chars}
+use Rattle.serna_kinds.specs.declared.cells.NodeName.{NodeName}
+use Rattle.serna_kinds.specs.Names.{NameParts}
+use Rattle.tree_lines.specs.Written.{is_text}
+use Rattle.tree_lines.proofs.Joining.{IsAscii-from_text}
+use Rattle.source_model.specs.Source.{Body, Forest, Source}
+use Rattle.source_model.specs.Source as source
+use Rattle.source_model.specs.Cells.{Spot, spot_in, spot_of, or_else, named}
+use Rattle.source_model.specs.Proper.{AreNodes, BeginsNoText, IsProper}
+use Rattle.source_model.proofs.Spots.{if_same, if_other}
+use Rattle.source_tree.specs.declared.prim.Primitive.{Primitive}
+use Rattle.source_tree.specs.declared.prim.Primitive.TheVariants.{InsertText, RemoveText, InsertChild, RemoveChild}
+use Rattle.source_tree.specs.declared.prim.SubItem.TheVariants as item
+use Rattle.source_tree.specs.declared.prim.Caret.{Caret}
+use Rattle.source_tree.specs.declared.prim.CaretPlace.{CaretPlace}
+use Rattle.source_tree.specs.declared.prim.CaretPlace.TheVariants.{Text, Into}
+use Rattle.source_tree.specs.Prims.{applied, MayApply, KeepsProper, HasPlace}
+use Rattle.source_tree.specs.Places.{IsPlaceOf, carried, carried_through}
+use Rattle.source_tree.proofs.ProperKept.{proper_kept}
+use Rattle.plain_editor.specs.Runs.{Origin, At, Fixed}
+use Rattle.plain_editor.specs.Stops.{Stop}
+use Rattle.plain_editor.specs.Commands.{Command, at_place, at_parts, read_number, typing, command_of, behind_front, parts_of, show_word, where_word, source_word, at_word, type_word}
+use Rattle.plain_editor.specs.Commands as command
+use Rattle.plain_editor.specs.Editor.{Editor, Reply, opened, stands_at, caret_of, put_first, put_at, changed, bytes_of, bytes_at, typed_at, typed, told, obeyed, step}
+use Rattle.plain_editor.specs.Sound.{IsCaretOf, IsLive, AreLive, IsInsertion, IsSound}
+use Rattle.plain_editor.proofs.Runs.{view_live}
+use Rattle.plain_editor.proofs.PlacesKept.{place_kept, behind_piece, behind_new}
+
+-- a list's members that pass a test
+kept : {A : Type 0} (P : A → Type 0) (test : A → Bool) (x : A) (xs : List A) (b : Bool) → P x → AllByRecursion P (filter test xs) → AllByRecursion P (if b then x ∷ filter test xs else filter test xs)
+kept P test x xs true p all = (p, all)
+kept P test x xs false p all = all
+
+all_filter : {A : Type 0} (P : A → Type 0) (test : A → Bool) (xs : List A) → AllByRecursion P xs → AllByRecursion P (filter test xs)
+all_filter P test [] all = tt
+all_filter P test (x ∷ xs) all = kept P test x xs (test x) all.0 (all_filter P test xs all.1)
+
+abbrev IsCaretLive : Source → List Primitive → Caret → Type 0
+IsCaretLive s since caret = IsPlaceOf s (carried_through since caret.place)
+
+caret_more : (s : Source) (since : List Primitive) (origin : Origin) (occurrence : ℕ) (carets : List Caret) → IsLive s since origin → AllByRecursion (IsCaretLive s since) carets →
+    AllByRecursion (IsCaretLive s since) (cons_option (elim origin [ At place ↦ Some (record { place = place; occurrence = occurrence }) | Fixed rule ↦ None ]) carets)
+caret_more s since (At place) occurrence carets is all = (is, all)
+caret_more s since (Fixed rule) occurrence carets is all = all
+
+all_carets : (s : Source) (since : List Primitive) (stops : List Stop) → AllByRecursion (λ (stop : Stop). IsLive s since stop.origin) stops → AllByRecursion (IsCaretLive s since) (filter_map caret_of stops)
+all_carets s since [] all = tt
+all_carets s since (stop ∷ stops) all = caret_more s since stop.origin stop.occurrence (filter_map caret_of stops) all.0 (all_carets s since stops all.1)
+
+-- the places after one prim more
+through_more : (since : List Primitive) (prim : Primitive) (place : CaretPlace) → carried_through (since ++ prim ∷ []) place ≡ carried prim (carried_through since place)
+through_more [] prim place = refl
+through_more (p ∷ since) prim place = through_more since prim (carried p place)
+
+live_origin : (names : List NameParts) (s : Source) (since : List Primitive) (prim : Primitive) (origin : Origin) → IsProper names s → MayApply prim s → IsLive s since origin →
+    IsLive (applied prim s) (since ++ prim ∷ []) origin
+live_origin names s since prim (At place) proper may is =
+    subst (IsPlaceOf (applied prim s)) (sym (through_more since prim place)) (place_kept names s prim (carried_through since place) proper may is)
+live_origin names s since prim (Fixed rule) proper may is = tt
+
+live_stops : (names : List NameParts) (s : Source) (since : List Primitive) (prim : Primitive) (stops : List Stop) → IsProper names s → MayApply prim s →
+    AllByRecursion (λ (stop : Stop). IsLive s since stop.origin) stops → AllByRecursion (λ (stop : Stop). IsLive (applied prim s) (since ++ prim ∷ []) stop.origin) stops
+live_stops names s since prim [] proper may all = tt
+live_stops names s since prim (stop ∷ stops) proper may all = (live_origin names s since prim stop.origin proper may all.0, live_stops names s since prim stops proper may all.1)
+
+live_view : (names : List NameParts) (s : Source) (since : List Primitive) (prim : Primitive) (stops : Option (List Stop)) → IsProper names s → MayApply prim s → AreLive s since stops →
+    AreLive (applied prim s) (since ++ prim ∷ []) stops
+live_view names s since prim None proper may all = tt
+live_view names s since prim (Some stops) proper may all = live_stops names s since prim stops proper may all
+
+one_more : (s : Source) (since : List Primitive) (prim : Primitive) → MayApply prim s → AllByRecursion IsInsertion since → AllByRecursion IsInsertion (since ++ prim ∷ [])
+one_more s [] (InsertText text place piece) may all = (tt, tt)
+one_more s [] (RemoveText text from to) may all = absurd may
+one_more s [] (InsertChild parent place items) may all = (tt, tt)
+one_more s [] (RemoveChild parent place) may all = absurd may
+one_more s (p ∷ since) prim may all = (all.0, one_more s since prim may all.1)
+
+changed_sound : (names : List NameParts) (editor : Editor) (prim : Primitive) (place : CaretPlace) (occurrence : ℕ) → IsSound names editor → MayApply prim editor.source →
+    KeepsProper names prim editor.source → IsPlaceOf (applied prim editor.source) place → IsSound names (changed editor prim place occurrence)
+changed_sound names editor prim place occurrence sound may keeps is = record {
+  proper = proper_kept names editor.source prim sound.proper may keeps;
+  caret = is;
+  stops = live_view names editor.source editor.since prim editor.stops sound.proper may sound.stops;
+  insertions = one_more editor.source editor.since prim may sound.insertions;
+}
+
+sound_if : (names : List NameParts) (b : Bool) (x y : Editor × Reply) → (b ≡ true → IsSound names x.0) → (b ≡ false → IsSound names y.0) → IsSound names (if b then x else y).0
+sound_if names true x y f g = f refl
+sound_if names false x y f g = g refl
+
+-- `at`
+put_first_sound : (names : List NameParts) (editor : Editor) (here : List Stop) (carets : List Caret) → IsSound names editor → AllByRecursion (IsCaretLive editor.source editor.since) carets →
+    IsSound names (put_first editor here carets).0
+put_first_sound names editor here (caret ∷ carets) sound all = record { proper = sound.proper; caret = all.0; stops = sound.stops; insertions = sound.insertions }
+put_first_sound names editor [] [] sound all = sound
+put_first_sound names editor (stop ∷ stops) [] sound all = sound
+
+pub put_at_sound : (names : List NameParts) (editor : Editor) (page line column : ℕ) (stops : Option (List Stop)) → IsSound names editor → AreLive editor.source editor.since stops →
+    IsSound names (put_at editor page line column stops).0
+put_at_sound names editor page line column None sound all = sound
+put_at_sound names editor page line column (Some stops) sound all =
+    let here : List Stop = filter (stands_at page line column) stops in
+    put_first_sound names editor here (filter_map caret_of here) sound
+    (all_carets editor.source editor.since here (all_filter (λ (stop : Stop). IsLive editor.source editor.since stop.origin) (stands_at page line column) stops all))
+
+-- the children of a node of a proper source
+pub or_spot : (o p : Option Spot) (spot : Spot) → or_else o p ≡ Some spot → (o ≡ Some spot) ⊎ (p ≡ Some spot)
+or_spot None p spot e = inr e
+or_spot (Some x) p spot e = inl e
+
+abbrev kids_at : Option Spot → Forest
+kids_at None = source.none
+kids_at (Some spot) = spot.kids
+
+node_kids : (names : List NameParts) (up : Option ℕ) (n k : ℕ) (body : Body) (kids rest : Forest) (spot : Spot) → ((n ≡ k) ⊎ (n ≡ k → ⊥)) → AreNodes names kids →
+    (spot_in (Some k) n kids ≡ Some spot → AreNodes names spot.kids) → (spot_in up n rest ≡ Some spot → AreNodes names spot.kids) →
+    spot_in up n (source.node k body kids rest) ≡ Some spot → AreNodes names spot.kids
+node_kids names up n k body kids rest spot (inl e) all below later found =
+    subst (AreNodes names) (ap kids_at (sym (if_same n k (Some (record { up = up; body = body; kids = kids })) (or_else (spot_in (Some k) n kids) (spot_in up n rest)) e) ∙ found)) all
+node_kids names up n k body kids rest spot (inr e) all below later found =
+    elim (or_spot (spot_in (Some k) n kids) (spot_in up n rest) spot
+    (sym (if_other n k (Some (record { up = up; body = body; kids = kids })) (or_else (spot_in (Some k) n kids) (spot_in up n rest)) e) ∙ found)) [ inl is ↦ below is | inr is ↦ later is ]
+
+kids_nodes : (names : List NameParts) (f : Forest) (up : Option ℕ) (n : ℕ) (spot : Spot) → AreNodes names f → spot_in up n f ≡ Some spot → AreNodes names spot.kids
+kids_nodes names source.none up n spot all found = absurd (none-some spot found)
+kids_nodes names (source.node k source.Root kids rest) up n spot all found = absurd all
+kids_nodes names (source.node k (source.Element name attributes) kids rest) up n spot all found =
+    node_kids names up n k (source.Element name attributes) kids rest spot (cases_eq n k) all.2 (λ is. kids_nodes names kids (Some k) n spot all.2 is)
+    (λ is. kids_nodes names rest up n spot all.3 is) found
+kids_nodes names (source.node k (source.Text t) kids rest) up n spot all found =
+    let below : AreNodes names kids = subst (AreNodes names) (sym all.2) tt in
+    node_kids names up n k (source.Text t) kids rest spot (cases_eq n k) below (λ is. kids_nodes names kids (Some k) n spot below is) (λ is. kids_nodes names rest up n spot all.4 is) found
+kids_nodes names (source.node k (source.Comment t) kids rest) up n spot all found =
+    let below : AreNodes names kids = subst (AreNodes names) (sym all.0) tt in
+    node_kids names up n k (source.Comment t) kids rest spot (cases_eq n k) below (λ is. kids_nodes names kids (Some k) n spot below is) (λ is. kids_nodes names rest up n spot all.1 is) found
+
+spot_nodes : (names : List NameParts) (s : Source) (n : ℕ) (spot : Spot) → IsProper names s → spot_of s n ≡ Some spot → AreNodes names spot.kids
+spot_nodes names s n spot proper found =
+    node_kids names None n 0 source.Root proper.top source.none spot (cases_eq n 0) proper.nodes (λ is. kids_nodes names proper.top (Some 0) n spot proper.nodes is) (λ is. absurd (none-some spot is))
+    (ap (spot_in None n) (sym proper.rooted) ∙ found)
+
+-- `type`
+pub typed_text_sound : (names : List NameParts) (editor : Editor) (text : List ℕ) (number : NodeName) (at occurrence : ℕ) → IsSound names editor → IsPlaceOf editor.source (Text number at) →
+    IsSound names (typed_at editor text (Text number at) occurrence).0
+typed_text_sound names editor text number at occurrence sound is =
+    sound_if names _ _ _ (λ _. sound) (λ short. sound_if names _ _ _ (λ _. sound) (λ few.
+    let bytes : bytes_at editor.source number.0 ≡ bytes_of is.0 = ap (λ (o : Option (List ℕ)). elim o [ None ↦ 0 | Some text ↦ bytes_of text ]) is.1 in
+    let within : bytes_at editor.source number.0 + bytes_of text ≤ 16384 = ltb-false 16384 (bytes_at editor.source number.0 + bytes_of text) short in
+    let room : bytes_of is.0 + bytes_of text ≤ 16384 = omega (arith, bytes, within) in
+    changed_sound names editor (InsertText number at text) (Text number (at + bytes_of text)) occurrence sound (is.0, is.1, is.2, room) tt
+    (behind_piece editor.source number at text (is.0, is.1, is.2, room))))
+
+pub typed_into_sound : (names : List NameParts) (editor : Editor) (text : List ℕ) (number : NodeName) (occurrence : ℕ) → IsSound names editor → IsPlaceOf editor.source (Into number) → text ≢ [] →
+    IsSound names (typed_at editor text (Into number) occurrence).0
+typed_into_sound names editor text number occurrence sound is some =
+    sound_if names _ _ _ (λ _. sound) (λ short. sound_if names _ _ _ (λ _. sound) (λ room. sound_if names _ _ _ (λ _. sound) (λ few.
+    let within : bytes_of text ≤ 16384 = ltb-false 16384 (bytes_of text) short in
+    let made : editor.source.made < 1000000 = leb-false 1000000 editor.source.made room in
+    let new : NodeName = named (editor.source.made + 1) in
+    let place : HasPlace editor.source number.0 0 = (is.0, is.1, is.2, omega arith) in
+    let keeps : (spot : Spot) → spot_of editor.source number.0 ≡ Some spot → AreNodes names (source.node new.0 (source.Text text) source.none spot.kids) = λ spot found.
+    (let both : Some is.0 ≡ Some spot = sym is.1 ∙ found in
+    (some, within, refl, subst BeginsNoText (ap kids_at both) is.3, spot_nodes names editor.source number.0 spot sound.proper found)) in
+    changed_sound names editor (InsertChild number 0 (item.Text new text ∷ [])) (Text new (bytes_of text)) occurrence sound (place, (refl, within, refl), made) keeps
+    (behind_new names editor.source number new 0 text sound.proper place refl))))
+
+place_sound : (names : List NameParts) (editor : Editor) (text : List ℕ) (place : CaretPlace) (occurrence : ℕ) → IsSound names editor → IsPlaceOf editor.source place → text ≢ [] →
+    IsSound names (typed_at editor text place occurrence).0
+place_sound names editor text (Text number at) occurrence sound is some = typed_text_sound names editor text number at occurrence sound is
+place_sound names editor text (Into number) occurrence sound is some = typed_into_sound names editor text number occurrence sound is some
+
+typed_sound : (names : List NameParts) (editor : Editor) (text : List ℕ) (caret : Option Caret) → IsSound names editor → IsCaretOf editor.source caret → text ≢ [] → IsSound names (typed editor text caret).0
+typed_sound names editor text None sound is some = sound
+typed_sound names editor text (Some caret) sound is some = place_sound names editor text caret.place caret.occurrence sound is some
+
+-- what a line types is not empty
+abbrev pub IsSaid : Command → Type 0
+IsSaid command.Show = Unit {0}
+IsSaid (command.At page line column) = Unit {0}
+IsSaid (command.Typing text) = text ≢ []
+IsSaid command.Where = Unit {0}
+IsSaid command.Tree = Unit {0}
+IsSaid command.NotBuilt = Unit {0}
+
+said_if : (b : Bool) (x y : Command) → (b ≡ true → IsSaid x) → IsSaid y → IsSaid (if b then x else y)
+said_if true x y p q = p refl
+said_if false x y p q = q
+
+said_place : (page line column : Option ℕ) → IsSaid (at_place page line column)
+said_place None line column = tt
+said_place (Some page) None column = tt
+said_place (Some page) (Some line) None = tt
+said_place (Some page) (Some line) (Some column) = tt
+
+said_parts : (parts : List (List ℕ)) → IsSaid (at_parts parts)
+said_parts [] = tt
+said_parts (page ∷ []) = tt
+said_parts (page ∷ line ∷ []) = tt
+said_parts (page ∷ line ∷ column ∷ []) = said_place (read_number page) (read_number line) (read_number column)
+said_parts (page ∷ line ∷ column ∷ more ∷ parts) = tt
+
+abbrev is_none : List ℕ → Bool
+is_none [] = true
+is_none (c ∷ cs) = false
+
+typed_some : (c : ℕ) (cs : List ℕ) → is_text (c ∷ cs) ≡ true → chars (c ∷ cs) ≡ [] → ⊥
+typed_some c cs is e =
+    let same : encode_utf8_all (chars (c ∷ cs)) ≡ c ∷ cs = encodes-chars (c ∷ cs) (IsUtf8-from_ascii (c ∷ cs) (IsAscii-from_text (c ∷ cs) is)) in
+    false≢true (sym (ap is_none same) ∙ ap (λ t. is_none (encode_utf8_all t)) e)
+
+said_typing : (text : List ℕ) → IsSaid (typing text)
+said_typing [] = tt
+said_typing (c ∷ cs) = said_if (is_text (c ∷ cs)) (command.Typing (chars (c ∷ cs))) command.NotBuilt (λ is. typed_some c cs is) tt
+
+said_behind_type : (o : Option (List ℕ)) → IsSaid (elim o [ Some text ↦ typing text | None ↦ command.NotBuilt ])
+said_behind_type None = tt
+said_behind_type (Some text) = said_typing text
+
+said_behind_at : (o p : Option (List ℕ)) → IsSaid (elim o [ Some rest ↦ at_parts (parts_of rest) | None ↦ elim p [ Some text ↦ typing text | None ↦ command.NotBuilt ] ])
+said_behind_at None p = said_behind_type p
+said_behind_at (Some rest) p = said_parts (parts_of rest)
+
+pub said : (line : List ℕ) → IsSaid (command_of line)
+said line =
+    said_if (bytes_eq line show_word) command.Show _ (λ _. tt)
+    (said_if (bytes_eq line where_word) command.Where _ (λ _. tt)
+    (said_if (bytes_eq line source_word) command.Tree _ (λ _. tt) (said_behind_at (behind_front at_word line) (behind_front type_word line))))
+
+told_sound : (names : List NameParts) (editor : Editor) (caret : Option Caret) → IsSound names editor → IsSound names (told editor caret).0
+told_sound names editor None sound = sound
+told_sound names editor (Some caret) sound = sound
+
+pub obeyed_sound : (names : List NameParts) (editor : Editor) (said_command : Command) → IsSaid said_command → IsSound names editor → IsSound names (obeyed editor said_command).0
+obeyed_sound names editor command.Show is sound = record { proper = sound.proper; caret = sound.caret; stops = view_live editor.source; insertions = tt }
+obeyed_sound names editor (command.At page line column) is sound = put_at_sound names editor page line column editor.stops sound sound.stops
+obeyed_sound names editor (command.Typing text) is sound = typed_sound names editor text editor.caret sound sound.caret is
+obeyed_sound names editor command.Where is sound = told_sound names editor editor.caret sound
+obeyed_sound names editor command.Tree is sound = sound
+obeyed_sound names editor command.NotBuilt is sound = sound
+
+pub step_sound : (names : List NameParts) (editor : Editor) (line : List ℕ) → IsSound names editor → IsSound names (step editor line).0
+step_sound names editor line sound = obeyed_sound names editor (command_of line) (said line) sound
+
+pub opened_sound : (names : List NameParts) (s : Source) → IsProper names s → IsSound names (opened names s)
+opened_sound names s proper = record { proper = proper; caret = tt; stops = tt; insertions = tt }
+
+pub ruleset all = opened_sound

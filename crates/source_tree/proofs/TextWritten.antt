@@ -1,0 +1,73 @@
+-- The canonical text is written along the nodes of an arena.
+use Rattle.std.proofs.Common.{◌≡◌, ℕ, ◌+◌, ◌≤◌, List, [], ◌∷◌, ◌++◌, map, drop, length, Option, refl, sym, ap, ◌∙◌, subst, arith, append-nil}
+use Rattle.std.proofs.lemmas.List.{drop_all}
+use Rattle.serna_kinds.specs.declared.cells.NodeName.{NodeName}
+use Rattle.serna_kinds.specs.Names.{NameParts}
+use Rattle.tree_lines.specs.Given.{Given, count_of}
+use Rattle.tree_lines.specs.Given as given
+use Rattle.source_model.specs.Source.{Body, Root, Element, Text, Comment, Forest, none, node, numbers}
+use Rattle.source_model.specs.Cells.{named}
+use Rattle.source_tree.specs.declared.node.Node.{Node}
+use Rattle.source_tree.specs.Begun.{begun, numbered}
+use Rattle.source_tree.specs.Unnumbered.{unnumbered, document_of}
+use Rattle.source_tree.specs.Lines.{forest_text, AreWithin, WritesNode, StillToWrite}
+
+-- a tree that is numbered and loses its numbers is as before
+unnumbered-numbered : (k : ℕ) (g : Given) → unnumbered (numbered k g) ≡ g
+unnumbered-numbered k given.end = refl
+unnumbered-numbered k (given.text t rest) = ap (given.text t) (unnumbered-numbered (k + 1) rest)
+unnumbered-numbered k (given.comment t rest) = ap (given.comment t) (unnumbered-numbered (k + 1) rest)
+unnumbered-numbered k (given.element name attributes content rest) =
+    ap (λ g. given.element name attributes g (unnumbered (numbered (k + 1 + count_of content) rest))) (unnumbered-numbered (k + 1) content)
+    ∙ ap (given.element name attributes content) (unnumbered-numbered (k + 1 + count_of content) rest)
+
+pub document_begun : (g : Given) → document_of (begun g) ≡ g
+unfolding begun
+document_begun g = unnumbered-numbered 1 g
+
+-- what stands behind a node
+rest_within : (nodes : List Node) (up : Option ℕ) (left n : ℕ) (body : Body) (kids rest : Forest) → AreWithin nodes up left (node n body kids rest) → AreWithin nodes up left rest
+rest_within nodes up left n Root kids rest w = absurd w.leaves
+rest_within nodes up left n (Element name attributes) kids rest w =
+    let d = w.shallow in
+    record { stored = w.stored.2; leaves = w.leaves.1; shallow = omega (arith, d) }
+rest_within nodes up left n (Text t) kids rest w =
+    let d = w.shallow in
+    record { stored = w.stored.2; leaves = w.leaves.1; shallow = omega (arith, d) }
+rest_within nodes up left n (Comment t) kids rest w =
+    let d = w.shallow in
+    record { stored = w.stored.2; leaves = w.leaves.1; shallow = omega (arith, d) }
+
+-- one more is written
+then_node : (nodes : List Node) (up : Option ℕ) (left : ℕ) (kids : List NodeName) (at : ℕ) (kid : NodeName) (names : List NameParts) (old now new : List ℕ) (forest rest : Forest) →
+    drop at kids ≡ kid ∷ drop (at + 1) kids → AreWithin nodes up left rest → drop at kids ≡ map named (numbers rest) → now ++ forest_text names rest ≡ old ++ forest_text names forest →
+    WritesNode nodes kid left names now new → StillToWrite nodes up left kids (at + 1) names old new forest
+then_node nodes up left kids at kid names old now new forest none one w next written writes = cc
+then_node nodes up left kids at kid names old now new forest (node n body below rest) one w next written writes =
+    let first : kid ∷ drop (at + 1) kids ≡ named n ∷ map named (numbers rest) = sym one ∙ next in
+    let same : kid ≡ named n = cc in
+    let number : kid.0 ≡ n = ap (λ (k : NodeName). k.0) same in
+    let there : AreWithin nodes up left (node kid.0 body below rest) = subst (λ k. AreWithin nodes up left (node k body below rest)) (sym number) w in
+    record {
+      rest = rest;
+      within = rest_within nodes up left n body below rest w;
+      next = cc;
+      written = writes up body below rest there ∙ ap (λ k. now ++ forest_text names (node k body below rest)) number ∙ written;
+    }
+
+pub one_more : (nodes : List Node) (up : Option ℕ) (left : ℕ) (kids : List NodeName) (at : ℕ) (kid : NodeName) (names : List NameParts) (old now new : List ℕ) (forest : Forest) →
+    drop at kids ≡ kid ∷ drop (at + 1) kids → StillToWrite nodes up left kids at names old now forest → WritesNode nodes kid left names now new →
+    StillToWrite nodes up left kids (at + 1) names old new forest
+one_more nodes up left kids at kid names old now new forest one still writes =
+    then_node nodes up left kids at kid names old now new forest still.rest one still.within still.next still.written writes
+
+-- all are written
+none_left : (forest : Forest) → map named (numbers forest) ≡ [] → forest ≡ none
+none_left none e = refl
+none_left (node n body kids rest) e = cc
+
+pub all_written : (nodes : List Node) (up : Option ℕ) (left : ℕ) (kids : List NodeName) (at : ℕ) (names : List NameParts) (old new : List ℕ) (forest : Forest) → length kids ≤ at →
+    StillToWrite nodes up left kids at names old new forest → new ≡ old ++ forest_text names forest
+all_written nodes up left kids at names old new forest past still =
+    let nothing : still.rest ≡ none = none_left still.rest (sym still.next ∙ drop_all at kids past) in
+    sym (append-nil new) ∙ ap (λ f. new ++ forest_text names f) (sym nothing) ∙ still.written

@@ -1,0 +1,8 @@
+use Rattle.source_tree.proofs.Undone.{undone_tree, undone_spaces}
+use Rattle.source_tree.proofs.laws.undoing_restores.Goals as goal
+
+pub returns : goal.returns
+returns c = record {
+  tree = undone_tree;
+  spaces = undone_spaces;
+}

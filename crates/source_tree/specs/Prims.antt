@@ -1,0 +1,99 @@
+-- The smallest changes of a source, and what takes each back (this project's own).
+use Rattle.std.specs.Prelude.{◌≡◌, ℕ, ◌+◌, ◌<◌, ◌≤◌, List, [], ◌∷◌, max, length, Some, encode_utf8_all}
+use Rattle.serna_kinds.specs.Texts.{IsPlaceIn, inserted, removed}
+use Rattle.source_model.specs.Source.{Body, Root, Element, Text, Comment, Forest, none, node, Source, numbers}
+use Rattle.source_model.specs.Cells.{Spot, spot_of}
+use Rattle.source_model.specs.Changes.{text_at, with_text, with_kids, inserted_at, removed_at, greatest}
+use Rattle.source_model.specs.Proper.{AreNodes}
+use Rattle.serna_kinds.specs.Names.{NameParts}
+use Rattle.source_tree.specs.declared.prim.Primitive.{Primitive}
+use Rattle.source_tree.specs.declared.prim.Primitive.TheVariants.{InsertText, RemoveText, InsertChild, RemoveChild}
+use Rattle.source_tree.specs.declared.prim.SubItem.{SubItem}
+use Rattle.source_tree.specs.declared.prim.SubItem.TheVariants as item
+
+-- a node in front of the innermost of the forests that are being read back, or with it as its children and in front of the next
+abbrev pub before_first : ℕ → Body → List Forest → List Forest
+before_first n body [] = []
+before_first n body (rest ∷ more) = node n body none rest ∷ more
+
+abbrev pub above_first : ℕ → Body → List Forest → List Forest
+above_first n body [] = []
+above_first n body (kids ∷ []) = []
+above_first n body (kids ∷ rest ∷ more) = node n body kids rest ∷ more
+
+-- the forests that items leave to what stands before them, the innermost first
+abbrev pub read_back : List SubItem → List Forest
+read_back [] = none ∷ []
+read_back (item.Begin number name attributes ∷ items) = above_first number.0 (Element name attributes) (read_back items)
+read_back (item.Text number text ∷ items) = before_first number.0 (Text text) (read_back items)
+read_back (item.Comment number text ∷ items) = before_first number.0 (Comment text) (read_back items)
+read_back (item.Finish ∷ items) = none ∷ read_back items
+
+abbrev pub first_forest : List Forest → Forest
+first_forest [] = none
+first_forest (forest ∷ more) = forest
+
+-- the nodes that the items of a subtree make
+abbrev pub subtree : List SubItem → Forest
+subtree items = first_forest (read_back items)
+
+-- the source with its nodes changed
+abbrev pub with_tree : Source → Forest → Source
+with_tree source tree = record { tree = tree; made = source.made; spaces = source.spaces }
+
+-- the source with nodes put among the children of a node; their numbers are made
+abbrev pub with_nodes : Source → ℕ → ℕ → Forest → Source
+with_nodes source parent place more =
+    record { tree = with_kids parent (inserted_at place more) source.tree; made = max source.made (greatest more); spaces = source.spaces }
+
+-- what a prim makes of a source
+abbrev pub applied : Primitive → Source → Source
+applied (InsertText text place piece) source = with_tree source (with_text text.0 (inserted place piece) source.tree)
+applied (RemoveText text from to) source = with_tree source (with_text text.0 (removed from to) source.tree)
+applied (InsertChild parent place items) source = with_nodes source parent.0 place (subtree items)
+applied (RemoveChild parent place) source = with_tree source (with_kids parent.0 (removed_at place) source.tree)
+
+-- what takes an insertion back
+abbrev pub IsUndoing : Primitive → Primitive → Type 0
+IsUndoing (InsertText text place piece) undoing = undoing ≡ RemoveText text place (place + length (encode_utf8_all piece))
+IsUndoing (RemoveText text from to) undoing = ⊥
+IsUndoing (InsertChild parent place items) undoing = undoing ≡ RemoveChild parent place
+IsUndoing (RemoveChild parent place) undoing = ⊥
+
+-- a text or a comment of the next number
+abbrev pub IsNewLeaf : ℕ → List SubItem → Type 0
+IsNewLeaf made [] = ⊥
+IsNewLeaf made (item.Begin number name attributes ∷ items) = ⊥
+IsNewLeaf made (item.Text number text ∷ items) = (number.0 ≡ made + 1) × (length (encode_utf8_all text) ≤ 16384) × (items ≡ [])
+IsNewLeaf made (item.Comment number text ∷ items) = (number.0 ≡ made + 1) × (items ≡ [])
+IsNewLeaf made (item.Finish ∷ items) = ⊥
+
+abbrev pub IsElement : Body → Type 0
+IsElement Root = ⊥
+IsElement (Element name attributes) = Unit {0}
+IsElement (Text text) = ⊥
+IsElement (Comment text) = ⊥
+
+-- an element with at least so many children
+abbrev pub HasPlace : Source → ℕ → ℕ → Type 0
+HasPlace source n place = (spot : Spot) × (spot_of source n ≡ Some spot) × IsElement spot.body × (place ≤ length (numbers spot.kids))
+
+-- a text node with such a place, and room for so many bytes more
+abbrev pub HasRoom : Source → ℕ → ℕ → ℕ → Type 0
+HasRoom source n place more = (text : List ℕ) × (text_at source n ≡ Some text) × IsPlaceIn text place × (length (encode_utf8_all text) + more ≤ 16384)
+
+-- when a prim may be applied: its place is there, and the limits hold in what it leaves. The insertions can be applied so far, and a
+-- subtree is a new text or comment.
+abbrev pub MayApply : Primitive → Source → Type 0
+MayApply (InsertText text place piece) source = HasRoom source text.0 place (length (encode_utf8_all piece))
+MayApply (RemoveText text from to) source = ⊥
+MayApply (InsertChild parent place items) source = HasPlace source parent.0 place × IsNewLeaf source.made items × (source.made < 1000000)
+MayApply (RemoveChild parent place) source = ⊥
+
+-- a prim keeps a source proper: more characters always do, and nodes where the children with them are proper
+abbrev pub KeepsProper : List NameParts → Primitive → Source → Type 0
+KeepsProper names (InsertText text place piece) source = Unit {0}
+KeepsProper names (RemoveText text from to) source = ⊥
+KeepsProper names (InsertChild parent place items) source =
+    (spot : Spot) → spot_of source parent.0 ≡ Some spot → AreNodes names (inserted_at place (subtree items) spot.kids)
+KeepsProper names (RemoveChild parent place) source = ⊥

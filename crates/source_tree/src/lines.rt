@@ -1,0 +1,99 @@
+ghost use Rattle.std.specs.Prelude.{◌≡◌, IfOk, OnOk, encode_utf8_all};
+ghost use Rattle.tree_lines.specs.Canonical.{canonical_text};
+ghost use Rattle.source_tree.specs.Lines.{Writes, WritesNode, WritesElement};
+
+use crate::SourceTree;
+use crate::node::{Node, NodeBody};
+use serna_kinds::{AttrPair, Chars, NameId, NameTable, NoMemory, NodeName};
+use std::alloc::Global;
+use tree_lines::TreeWriter;
+
+/// How deep elements may stand in one another, an outermost one at 1.
+const DEEPEST: usize = 120;
+
+impl SourceTree {
+    ghost use Rattle.source_tree.specs.Unnumbered.{document_of};
+
+    /// The tree lines of the source: its canonical text, each line with its LF. `names` is the table that its names are
+    /// numbers of. Takes memory for the text alone; `Err` comes where there is none.
+    pub fn lines(&self, alloc: Global, names: &NameTable) -> Result<Chars, NoMemory>
+        ensures { IfOk result (λ text. encode_utf8_all text ≡ canonical_text names.now (document_of self.now)) }
+    {
+        let mut writer = TreeWriter::new(alloc);
+        let top = self.nodes[0].kids.as_slice();
+        write_kids(&self.nodes, top, DEEPEST, names, &mut writer)?;
+        Ok(writer.into_chars())
+    }
+}
+
+/// Writes the nodes of these numbers with all below them, where elements stand at most `left` deep in one another.
+#[cycle(writing)]
+fn write_kids(
+    nodes: &[Node],
+    kids: &[NodeName],
+    left: usize,
+    names: &NameTable,
+    writer: &mut TreeWriter,
+) -> Result<(), NoMemory>
+    ensures { OnOk result (Writes nodes.now kids.now left names.now writer.old writer.new) }
+{
+    'neighbours: for kid in kids {
+        write_node(nodes, *kid, left, names, writer)?;
+    }
+    Ok(())
+}
+
+/// Writes the node of a number with all below it. A number of no node writes nothing, and so does a document node.
+#[cycle(writing)]
+fn write_node(
+    nodes: &[Node],
+    number: NodeName,
+    left: usize,
+    names: &NameTable,
+    writer: &mut TreeWriter,
+) -> Result<(), NoMemory>
+    ensures { OnOk result (WritesNode nodes.now number left names.now writer.old writer.new) }
+{
+    let Some(node) = nodes.get(number.0 as usize) else {
+        return Ok(());
+    };
+    match &node.body {
+        NodeBody::Root => Ok(()),
+        NodeBody::Element(name, attributes) => {
+            let kids = node.kids.as_slice();
+            write_element(
+                nodes,
+                *name,
+                attributes.as_slice(),
+                kids,
+                left,
+                names,
+                writer,
+            )
+        }
+        NodeBody::Text(text) => writer.text(text),
+        NodeBody::Comment(text) => writer.comment(text),
+    }
+}
+
+/// Writes an element: its beginning with its attributes, the nodes of its children's numbers, and its end.
+#[cycle(writing)]
+fn write_element(
+    nodes: &[Node],
+    name: NameId,
+    attributes: &[AttrPair],
+    kids: &[NodeName],
+    left: usize,
+    names: &NameTable,
+    writer: &mut TreeWriter,
+) -> Result<(), NoMemory>
+    ensures { OnOk result (WritesElement nodes.now name attributes.now kids.now left names.now writer.old writer.new) }
+{
+    // No element of a source stands deeper.
+    if left == 0 {
+        return Ok(());
+    }
+    writer.begin(name, attributes, names)?;
+    write_kids(nodes, kids, left - 1, names, writer)?;
+    writer.end(name, names)
+}

@@ -1,0 +1,8 @@
+-- The characters so far are written.
+use Rattle.std.proofs.Common.{◌≡◌, ◌++◌, encode_utf8_all}
+use Rattle.std.specs.String.{string_bytes}
+use Rattle.tree_lines.specs.Canonical.{escaped}
+use Rattle.tree_lines.proofs.write.push_escaped.Given as goal
+
+abbrev pub invariant-loop-c : goal.invariant-loop-c
+invariant-loop-c l = string_bytes l.out ≡ string_bytes l.initial.out ++ encode_utf8_all (escaped l.yielded)
