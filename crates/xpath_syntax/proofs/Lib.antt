@@ -1,0 +1,12 @@
+pub mod Runs
+pub mod Cuts
+pub mod Outcomes
+pub mod Completeness
+pub mod Soundness
+pub mod States
+pub mod Steps
+pub mod Endings
+pub mod Stopping
+pub mod WordLemmas
+pub mod Answering
+pub mod Spelled

@@ -1,0 +1,13 @@
+use Rattle.std.proofs.Common.{◌≤◌, length}
+use Rattle.xpath_syntax.proofs.Stopping.{Standing}
+use Rattle.xpath_syntax.proofs.parse.parse.Given as goal
+
+abbrev pub invariant-loop-symbol : goal.invariant-loop-symbol
+invariant-loop-symbol l = record {
+  shallow : l.reader.depth ≤ 64;
+  few : l.count ≤ length l.fn.symbols;
+  stands : Standing l.fn.symbols l.count l.symbols l.reader;
+}
+
+abbrev pub decreases-loop-symbol : goal.decreases-loop-symbol
+decreases-loop-symbol l = length l.symbols

@@ -1,0 +1,10 @@
+pub mod Tokens
+pub mod Spelling
+pub mod Trees
+pub mod Grammar
+pub mod Symbols
+pub mod Stops
+pub mod Faults
+pub mod Reading
+pub mod Machine
+pub mod Advance

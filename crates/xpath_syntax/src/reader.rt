@@ -1,0 +1,106 @@
+//! Reads an expression from its text.
+
+ghost use Rattle.std.specs.Prelude.{◌≡◌, ◌≤◌, ℕ, List, length, IfOk, IfErr, MatchResult};
+ghost use Rattle.std.specs.List.{AllByRecursion};
+ghost use Rattle.serna_kinds.specs.Names.{NameParts, Grows};
+ghost use Rattle.xpath_syntax.specs.declared.expr.Expr.{Expr};
+ghost use Rattle.xpath_syntax.specs.declared.faults.ExprRule.{ExprRule};
+ghost use Rattle.xpath_syntax.specs.Tokens.{IsCut};
+ghost use Rattle.xpath_syntax.specs.Faults.{place_of, fault_before};
+ghost use Rattle.xpath_syntax.specs.Reading.{IsReading, IsFirstFault, IsRead};
+
+use crate::NoMemory;
+use crate::expr::Expr;
+use crate::faults::{ExprRule, fault_among};
+use crate::parse::{Parsed, parse};
+use crate::symbols::symbols_at;
+use crate::tokens::{Token, tokens_of};
+use serna_kinds::{NameTable, Spaces};
+use std::alloc::Global;
+
+/// Why a text was not read: the rule that it breaks first and the place of the byte where it does, or want of memory.
+#[derive(Debug, Drop)]
+pub enum ExprFault {
+    Refused(ExprRule, usize),
+    NoMemory,
+}
+
+impl From<NoMemory> for ExprFault {
+    ghost use Rattle.xpath_syntax.specs.declared.reader.ExprFault.TheVariants.{NoMemory};
+
+    ghost from_gives = { λ _ e. e ≡ NoMemory };
+
+    fn from(_e: NoMemory) -> ExprFault {
+        ExprFault::NoMemory
+    }
+}
+
+/// The place of a token, or the length of the text behind the last one.
+fn place_of(text: &str, tokens: &[Token], count: usize) -> usize
+    ensures { result ≡ place_of text.now tokens.now count }
+{
+    match tokens.get(count) {
+        Some(token) => token.start,
+        None => text.len(),
+    }
+}
+
+/// The first fault where no expression can go on with the token of this number.
+fn fault_before(spaces: &Spaces, text: &str, tokens: &[Token], count: usize) -> (ExprRule, usize)
+    requires within { count ≤ length tokens.now }
+    requires cut { AllByRecursion (IsCut text.now) tokens.now }
+    ensures { result ≡ fault_before spaces.now text.now tokens.now count }
+{
+    match fault_among(spaces, text, &tokens[..count]) {
+        Some(found) => found,
+        None => (ExprRule::Syntax, place_of(text, tokens, count)),
+    }
+}
+
+/// Reads the tokens of a text.
+fn read_tokens(
+    alloc: Global,
+    text: &str,
+    tokens: &[Token],
+    spaces: &Spaces,
+    names: &mut NameTable,
+) -> Result<Expr, ExprFault>
+    requires { AllByRecursion (IsCut text.now) tokens.now }
+    ensures read { IsRead spaces.now names.new text.now tokens.now result }
+    ensures names { Grows names.old names.new }
+{
+    let symbols = symbols_at(alloc, text, tokens, spaces, names)?;
+    match parse(alloc, symbols)? {
+        Parsed::Tree(tree) => match fault_among(spaces, text, tokens) {
+            Some((rule, place)) => Err(ExprFault::Refused(rule, place)),
+            None => Ok(tree),
+        },
+        Parsed::Stop(count) => {
+            let (rule, place) = fault_before(spaces, text, tokens, count);
+            Err(ExprFault::Refused(rule, place))
+        }
+    }
+}
+
+/// Reads an expression (XPath 1.0, without the namespace axis, `processing-instruction( )` and `div`; at most 64 `(` and `[`
+/// are open at once). Prefixes are those that `spaces` declares. The table gets names, also where the text has a fault.
+pub fn read_expr(
+    alloc: Global,
+    text: &str,
+    spaces: &Spaces,
+    names: &mut NameTable,
+) -> Result<Expr, ExprFault>
+    // The tree is the text's, with the numbers that names have in the new table and in every one that grows from it.
+    ensures tree { IfOk result (λ tree. (later : List NameParts) → Grows names.new later → IsReading spaces.now later text.now tree) }
+    // A text with a tree and no fault is read, unless memory runs out, and it has no other tree.
+    ensures only { (tree : Expr) → IsReading spaces.now names.new text.now tree → MatchResult result (λ e. e ≡ tree) (λ fault. fault ≡ ExprFault.NoMemory) }
+    // A fault is the first one of the text.
+    ensures fault { IfErr result (λ fault. (rule : ExprRule) (place : ℕ) → fault ≡ ExprFault.Refused rule place → IsFirstFault spaces.now names.new text.now rule place) }
+    // A text with a fault is refused, for that fault and no other.
+    ensures refused { (rule : ExprRule) (place : ℕ) → IsFirstFault spaces.now names.new text.now rule place
+        → MatchResult result (λ _. ⊥) (λ fault. (r : ExprRule) (p : ℕ) → fault ≡ ExprFault.Refused r p → (r ≡ rule) × (p ≡ place)) }
+    ensures names { Grows names.old names.new }
+{
+    let tokens = tokens_of(alloc, text)?;
+    read_tokens(alloc, text, tokens.as_slice(), spaces, names)
+}

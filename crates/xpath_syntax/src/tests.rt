@@ -1,0 +1,110 @@
+use crate::{Expr, ExprFault, ExprRule, read_expr};
+use serna_kinds::{NameTable, Spaces};
+use std::test::Fail;
+
+/// The rule, from 20, and the place of the first fault; 0 and 0 where there is none.
+fn fault_of(rt: &HostRuntime, text: &str) -> Result<(u8, usize), Fail> {
+    let mut names = NameTable::new(rt.alloc());
+    let mut spaces = Spaces::new(rt.alloc());
+    spaces.declare(rt.alloc(), "p", "u")?;
+    match read_expr(rt.alloc(), text, &spaces, &mut names) {
+        Ok(_) => Ok((0, 0)),
+        Err(ExprFault::Refused(rule, place)) => Ok((number_of(rule), place)),
+        Err(ExprFault::NoMemory) => Ok((1, 0)),
+    }
+}
+
+fn number_of(rule: ExprRule) -> u8 {
+    match rule {
+        ExprRule::Syntax => 20,
+        ExprRule::UnknownFunction => 21,
+        ExprRule::WrongArity => 22,
+        ExprRule::Fraction => 23,
+        ExprRule::UnboundPrefix => 24,
+    }
+}
+
+#[test]
+fn finds_the_first_fault(rt: HostRuntime) -> Result<(), Fail> {
+    for (text, rule, place) in [
+        ("1.5", 23, 0),
+        (".5", 23, 0),
+        ("1 div 2", 20, 2),
+        ("a div b", 20, 2),
+        ("id(1)", 21, 0),
+        ("count()", 22, 0),
+        ("q:a", 24, 0),
+        ("$q:x", 24, 0),
+        ("'abc", 20, 0),
+        ("a[", 20, 2),
+        ("(a", 20, 2),
+        ("a/foo()", 20, 2),
+        ("processing-instruction('x')", 21, 0),
+        ("a/processing-instruction('x')", 20, 2),
+        ("namespace::a", 20, 0),
+        ("//", 20, 2),
+        ("", 20, 0),
+        ("a|-b", 20, 2),
+        (".[1]", 20, 1),
+        ("..[1]", 20, 2),
+        ("$ x", 20, 0),
+        ("p : a", 20, 2),
+        ("q:foo()", 21, 0),
+        ("count(a) + count(a,b) + ]", 22, 11),
+        ("count(a,", 20, 8),
+        ("1234567890123456", 20, 0),
+        ("1.234567890123456", 20, 0),
+        ("1 mod-1", 20, 2),
+    ] {
+        let found = fault_of(&rt, text)?;
+        assert_eq!(rt; found.0, rule, "{text}");
+        assert_eq!(rt; found.1, place, "{text}");
+    }
+    Ok(())
+}
+
+#[test]
+fn reads_expressions(rt: HostRuntime) -> Result<(), Fail> {
+    for text in [
+        "div",
+        "* * *",
+        "a//b[@c='d']/..",
+        "-7 mod 2 = -1",
+        "text()[1]",
+        "/",
+        "/a or b and c",
+        "count(p:a) >= last() - 1",
+        "(a|b)[1]/c",
+        "concat('x', \"y\", é)",
+        "ancestor-or-self :: node ( )",
+        "true()",
+        "and",
+        "- - -1",
+        "1mod 1",
+    ] {
+        let found = fault_of(&rt, text)?;
+        assert_eq!(rt; found.0, 0, "{text}");
+    }
+    Ok(())
+}
+
+/// A text made of so many copies of a part.
+fn repeated(rt: &HostRuntime, part: &str, times: usize) -> Result<String, Fail> {
+    let mut text = String::new(rt.alloc());
+    for _ in 0..times {
+        text.push_str(part)?;
+    }
+    Ok(text)
+}
+
+#[test]
+fn reads_long_chains_and_refuses_deep_brackets(rt: HostRuntime) -> Result<(), Fail> {
+    let mut chain = repeated(&rt, "1+", 10_000)?;
+    chain.push_str("1")?;
+    assert_eq!(rt; fault_of(&rt, chain.as_str())?.0, 0);
+    let deep = repeated(&rt, "(", 65)?;
+    let found = fault_of(&rt, deep.as_str())?;
+    assert_eq!(rt; found.0, 20);
+    assert_eq!(rt; found.1, 64);
+    Ok(())
+}
