@@ -49,6 +49,9 @@ pub record Space : Type 0 where
   pub prefix : List ℕ
   pub uri : List ℕ
 
+abbrev pub space : List ℕ → List ℕ → Space
+space prefix uri = record { prefix = prefix; uri = uri }
+
 -- the URI of the first declaration of a prefix
 abbrev pub uri_of : List Space → List ℕ → Option (List ℕ)
 uri_of [] prefix = None

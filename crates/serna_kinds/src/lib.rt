@@ -6,12 +6,14 @@ mod cells;
 mod chars;
 mod expressions;
 mod names;
+mod qualified;
 mod tape;
 
 pub use cells::{AttrPair, Cell, CellValue, Facet, Kind, NameId, NodeName, NodeRef, SourceView};
 pub use chars::Chars;
 pub use expressions::{Axis, CompareOp, NodeTest, TextFunction};
 pub use names::{Name, NameTable, Spaces};
+pub use qualified::{WrittenName, is_name, parted};
 pub use sqlite_items::Items;
 pub use tape::Tape;
 

@@ -3,7 +3,8 @@ ghost use Rattle.std.specs.Option.{option_map};
 ghost use Rattle.std.specs.Cmp.Rules.{comparing, hashing};
 ghost use Rattle.std.specs.Hash as fed;
 ghost use Rattle.std.proofs.Common.{rules};
-ghost use Rattle.serna_kinds.specs.Names.{NameParts, Grows, AreDistinct, name_parts, parts_of, is_same_name, id_of, with_name, are_same, uri_of};
+ghost use Rattle.serna_kinds.specs.Names.{NameParts, Grows, AreDistinct, name_parts, space, parts_of, is_same_name, id_of, with_name, are_same, uri_of};
+ghost use Rattle.serna_kinds.specs.Qualified.{uri_for, element_uri, attribute_uri};
 
 use crate::{NameId, NoMemory};
 use indexmap::IndexSet;
@@ -236,6 +237,11 @@ impl Clone for Declaration {
     }
 }
 
+// The prefix `xml` and its URI (Namespaces in XML 1.0, section 3).
+const XML_PREFIX: &str = "xml";
+
+const XML_URI: &str = "http://www.w3.org/XML/1998/namespace";
+
 /// The prefixes and URIs that a document's outermost element declares, in their order.
 ///
 /// Contracts see the list of the declarations.
@@ -265,7 +271,7 @@ impl Spaces {
 
     /// Adds a declaration at the end.
     pub fn declare(&mut self, alloc: Global, prefix: &str, uri: &str) -> Result<(), NoMemory>
-        ensures ok { OnOk result (self.new ≡ self.old ++ record { prefix = prefix.now; uri = uri.now } ∷ []) }
+        ensures ok { OnOk result (self.new ≡ self.old ++ space prefix.now uri.now ∷ []) }
         ensures err { OnErr result (self.new ≡ self.old) }
     {
         let declaration = Declaration {
@@ -286,6 +292,65 @@ impl Spaces {
             }
         }
         None
+    }
+
+    /// The URI that a prefix stands for: `xml` has its own, whatever is declared (Namespaces in XML 1.0, section 3).
+    /// None exactly where nothing declares the prefix.
+    fn uri_for(&self, prefix: &str) -> Option<&str>
+        ensures { option_map (λ u. u.now) result ≡ uri_for self.now prefix.now }
+    {
+        if prefix == XML_PREFIX {
+            return Some(XML_URI);
+        }
+        self.uri(prefix)
+    }
+
+    /// The URI of an element's name by its prefix. Without a prefix it is that of the default namespace, or empty where that
+    /// is not declared (Namespaces in XML 1.0, section 6.2). None exactly where nothing declares the prefix.
+    pub fn element_uri(&self, prefix: &str) -> Option<&str>
+        ensures { option_map (λ u. u.now) result ≡ element_uri self.now prefix.now }
+    {
+        if !prefix.is_empty() {
+            return self.uri_for(prefix);
+        }
+        match self.uri("") {
+            Some(uri) => Some(uri),
+            None => Some(""),
+        }
+    }
+
+    /// The URI of an attribute's name by its prefix, empty without a prefix (Namespaces in XML 1.0, section 6.2).
+    /// None exactly where nothing declares the prefix.
+    pub fn attribute_uri(&self, prefix: &str) -> Option<&str>
+        ensures { option_map (λ u. u.now) result ≡ attribute_uri self.now prefix.now }
+    {
+        if prefix.is_empty() {
+            return Some("");
+        }
+        self.uri_for(prefix)
+    }
+
+    /// How many declarations there are.
+    pub fn len(&self) -> usize
+        ensures { result ≡ length self.now }
+    {
+        self.declarations.len()
+    }
+
+    /// Whether nothing is declared.
+    pub fn is_empty(&self) -> bool
+        ensures { IsTrue result ↔ (length self.now ≡ 0) }
+    {
+        self.len() == 0
+    }
+
+    /// The prefix (empty: the default namespace) and the URI of the declaration at a place, from 0. None exactly past the
+    /// last one.
+    pub fn declaration(&self, place: usize) -> Option<(&str, &str)>
+        ensures { option_map (λ d. space d.0.now d.1.now) result ≡ slice_get self.now place }
+    {
+        let declaration = self.declarations.get(place)?;
+        Some((declaration.prefix(), declaration.uri()))
     }
 
     /// The same declarations, in memory of their own.

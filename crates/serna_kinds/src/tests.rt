@@ -66,3 +66,23 @@ fn holds_characters(rt: HostRuntime) -> Result<(), Fail> {
     assert!(rt; text.as_text() == "ßß");
     Ok(())
 }
+
+// Texts, and whether they are names.
+const WRITTEN: [(&str, bool); 8] = [
+    ("a", true),
+    ("_a:b-1.", true),
+    ("é:ü", true),
+    ("", false),
+    ("1a", false),
+    ("a:", false),
+    (":a", false),
+    ("a:b:c", false),
+];
+
+#[test]
+fn knows_names(rt: HostRuntime) -> Result<(), Fail> {
+    for (text, wanted) in WRITTEN {
+        assert!(rt; is_name(text) == wanted);
+    }
+    Ok(())
+}
