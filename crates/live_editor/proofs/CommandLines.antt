@@ -2,12 +2,14 @@
 use Rattle.std.proofs.Common.{◌≡◌, ◌≢◌, ◌⊎◌, ℕ, suc, ◌+◌, ◌-◌, ◌^◌, ◌<◌, ◌≤◌, ◌==◌, ◌&&◌, nat_le, nat_lt, Bool, true, false, cond, List, [], ◌∷◌, ◌++◌, length, take, drop, position, Option, Some, None, Bor, refl, sym, ap, ◌∙◌, inl, inr, arith, if◌then◌else◌}
 use Rattle.std.specs.List.{onto_first, list_all, position_or_len}
 use Rattle.std.specs.Option.{option_map, MatchOption}
-use Rattle.std.proofs.lemmas.Bool.{eqb-true, eq-eqb, ltb-true, ltb-false, and_right, cond-true, cond-false}
+use Rattle.std.proofs.lemmas.Bool.{false≢true, eqb-true, eq-eqb, ltb-true, ltb-false, and_right, cond-true, cond-false}
 use Rattle.std.proofs.lemmas.List.{take_rest}
 use Rattle.std.proofs.lemmas.List.Recursion.{is_position_or_len}
 use Rattle.std.proofs.Math.Nat.{pow-le-pow_right}
-use Rattle.tree_lines.specs.Written.{is_digit}
-use Rattle.plain_editor.specs.Commands.{NotBuilt, behind_front, parts_of, read_number, at_place, at_parts}
+use Rattle.serna_kinds.specs.Qualified.{is_digit}
+use Rattle.tree_lines.specs.Texts.{has_escapes, meant}
+use Rattle.plain_editor.specs.Input.{is_plain}
+use Rattle.plain_editor.specs.Commands.{Command, NotBuilt, Typing, behind_front, parts_of, read_number, at_place, at_parts, typing}
 
 -- what follows a front
 
@@ -123,3 +125,19 @@ at_three text page rest line column first second third cut again p l c =
 -- the digits so far say a number below a power of ten
 pub below_billion : (i n : ℕ) → i < 9 → n < 10 ^ i → n < 100000000
 below_billion i n few below = omega (arith, pow-le-pow_right {n = 10} (omega arith) (let e : i ≤ 8 = omega arith in e))
+
+-- what is typed, of a text that is plain and not empty
+abbrev pub typed_as : Option (List ℕ) → Command
+typed_as None = NotBuilt
+typed_as (Some text) = Typing text
+
+typed_by : (b : Bool) (text : List ℕ) → typed_as (if b then Some text else None) ≡ (if b then Typing text else NotBuilt)
+typed_by true text = refl
+typed_by false text = refl
+
+pub typing_is : (text said : List ℕ) (found : Option (List ℕ)) → false ≡ (length text == 0) → is_plain text ≡ true → said ≡ text →
+    found ≡ (if has_escapes said then Some (meant said) else None) → typed_as found ≡ typing text
+typing_is [] said found some plain same e = absurd (false≢true some)
+typing_is (c ∷ cs) said found some plain same e =
+    ap typed_as (e ∙ ap (λ (text : List ℕ). if has_escapes text then Some (meant text) else None) same) ∙ typed_by (has_escapes (c ∷ cs)) (meant (c ∷ cs))
+    ∙ ap (λ (p : Bool). if p && has_escapes (c ∷ cs) then Typing (meant (c ∷ cs)) else NotBuilt) (sym plain)

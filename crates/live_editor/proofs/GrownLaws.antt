@@ -1,6 +1,6 @@
 -- How a view grows, run by run, and the runs of a node by what its cells say.
 use Rattle.std.proofs.Common.{◌≡◌, ℕ, suc, ◌+◌, ◌<◌, List, [], ◌∷◌, ◌++◌, map, take, length, get_or, Option, Some, None, encode_utf8_all, refl, sym, ap, ◌∙◌, arith, append_assoc, length-append}
-use Rattle.std.proofs.lemmas.List.{append-nil, take_more, flat_map_more}
+use Rattle.std.proofs.lemmas.List.{append-nil, map-append, take_more, flat_map_more}
 use Rattle.std.proofs.lemmas.Str.{encodes-append}
 use Rattle.std.specs.List.{flat_map}
 use Rattle.std.specs.Option.{option_and_then}
@@ -13,6 +13,7 @@ use Rattle.source_model.specs.Source.{Body, Root, Element, Text, Comment, Forest
 use Rattle.source_model.specs.Cells.{Spot, named, spot_of, facet_of}
 use Rattle.source_model.specs.PlainText.{deep}
 use Rattle.plain_editor.specs.Runs.{Fixed, Run, run, texts_of, element_runs, body_runs, spot_runs, node_runs}
+use Rattle.plain_editor.specs.Editor.{printed}
 use Rattle.plain_editor.specs.Stops.{Boundary, run_boundaries, line_boundaries}
 use Rattle.plain_editor.proofs.Runs.{texts_of-append}
 use Rattle.live_editor.specs.declared.view.View.{View}
@@ -36,10 +37,19 @@ grown_none view within = record {
   within = within;
 }
 
+-- runs as they are printed
+abbrev said : List Run → List ℕ
+said runs = encode_utf8_all (map printed (texts_of runs))
+
+said-append : (a b : List Run) → said (a ++ b) ≡ said a ++ said b
+said-append a b =
+    ap (λ t. encode_utf8_all (map printed t)) (texts_of-append a b) ∙ ap encode_utf8_all (map-append printed (texts_of a) (texts_of b))
+    ∙ encodes-append (map printed (texts_of a)) (map printed (texts_of b))
+
 pub grown_both : (start between end : View) (a b : List Run) → Grown start between a → Grown between end b → Grown start end (a ++ b)
 grown_both start between end a b f g = record {
-  line = g.line ∙ ap (λ l. l ++ encode_utf8_all (texts_of b)) f.line ∙ append_assoc (string_bytes start.line) (encode_utf8_all (texts_of a)) (encode_utf8_all (texts_of b))
-      ∙ ap (λ t. string_bytes start.line ++ t) (sym (encodes-append (texts_of a) (texts_of b)) ∙ ap encode_utf8_all (sym (texts_of-append a b)));
+  line = g.line ∙ ap (λ l. l ++ said b) f.line ∙ append_assoc (string_bytes start.line) (said a) (said b)
+      ∙ ap (λ t. string_bytes start.line ++ t) (sym (said-append a b));
   boundaries = g.boundaries ∙ ap (λ bs. bs ++ line_boundaries between.column b) f.boundaries
       ∙ append_assoc (boundaries_of start.boundaries.items) (line_boundaries start.column a) (line_boundaries between.column b)
       ∙ ap (λ n. boundaries_of start.boundaries.items ++ (line_boundaries start.column a ++ line_boundaries n b)) f.column

@@ -6,6 +6,7 @@ use Rattle.live_editor.specs.declared.view.Origin.{Origin}
 use Rattle.live_editor.specs.declared.view.Origin.TheVariants as code
 use Rattle.live_editor.specs.declared.view.Boundary.{Boundary}
 use Rattle.live_editor.specs.declared.view.View.{View}
+use Rattle.plain_editor.specs.Editor.{printed}
 use Rattle.plain_editor.specs.Runs as runs
 use Rattle.plain_editor.specs.Stops as stops
 
@@ -29,9 +30,9 @@ HasRoom more (code.Fixed rule) = Unit {0}
 abbrev pub IsWithin : View → Type 0
 IsWithin view = view.column ≤ length view.boundaries.items
 
--- the view has got some runs more
+-- the view has got some runs more, as they are printed
 pub record Grown (old new : View) (more : List runs.Run) : Type 0 where
-  pub line : string_bytes new.line ≡ string_bytes old.line ++ encode_utf8_all (runs.texts_of more)
+  pub line : string_bytes new.line ≡ string_bytes old.line ++ encode_utf8_all (map printed (runs.texts_of more))
   pub boundaries : boundaries_of new.boundaries.items ≡ boundaries_of old.boundaries.items ++ stops.line_boundaries old.column more
   pub column : new.column ≡ old.column + length (runs.texts_of more)
   pub within : IsWithin new

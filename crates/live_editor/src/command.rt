@@ -1,17 +1,21 @@
-ghost use Rattle.std.specs.Prelude.{◌≡◌, ◌==◌, [], ◌∷◌, IfSome, IfNone, position};
+ghost use Rattle.std.specs.Prelude.{◌≡◌, ◌==◌, [], ◌∷◌, IfSome, IfNone, IfOk, position};
 ghost use Rattle.std.specs.Option.{option_map};
-ghost use Rattle.tree_lines.specs.Written.{is_text};
+ghost use Rattle.plain_editor.specs.Input.{is_plain};
 ghost use Rattle.plain_editor.specs.Commands.{command_of, at_parts, typing, parts_of, read_number, behind_front};
 ghost use Rattle.live_editor.specs.Said.{said};
 
+use serna_kinds::{Chars, NoMemory};
+use std::alloc::Global;
+use tree_lines::unescape;
+
 /// What a command line says.
-#[derive(Clone, Copy, Debug)]
-pub(crate) enum Command<'a> {
+#[derive(Debug, Drop)]
+pub(crate) enum Command {
     Show,
     /// A page, a line and a column.
     At(u32, u32, u32),
-    /// The text to type, in printable ASCII and not empty.
-    Typing(&'a str),
+    /// The characters to type, of which there are some.
+    Typing(Chars),
     Where,
     Source,
     /// A line of a form that is not built, or of none.
@@ -31,25 +35,25 @@ const TYPE: &[u8] = b"type ";
 /// The longest number, in digits.
 const MAX_DIGITS: usize = 9;
 
-/// Reads a command line.
-pub(crate) fn read_command(line: &[u8]) -> Command<'_>
-    ensures { said result ≡ command_of line.now }
+/// Reads a command line. `Err` comes where there is no memory for the characters to type.
+pub(crate) fn read_command(alloc: Global, line: &[u8]) -> Result<Command, NoMemory>
+    ensures { IfOk result (λ command. said command ≡ command_of line.now) }
 {
     if line == SHOW {
-        return Command::Show;
+        return Ok(Command::Show);
     }
     if line == WHERE {
-        return Command::Where;
+        return Ok(Command::Where);
     }
     if line == SOURCE {
-        return Command::Source;
+        return Ok(Command::Source);
     }
     if let Some(rest) = behind(line, AT) {
-        return read_at(rest);
+        return Ok(read_at(rest));
     }
     match behind(line, TYPE) {
-        Some(text) => read_typing(text),
-        None => Command::NotBuilt,
+        Some(text) => read_typing(alloc, text),
+        None => Ok(Command::NotBuilt),
     }
 }
 
@@ -61,7 +65,7 @@ fn behind<'a>(line: &'a [u8], front: &[u8]) -> Option<&'a [u8]>
 }
 
 /// Reads what follows `at `: a page, a line and a column.
-fn read_at(rest: &[u8]) -> Command<'_>
+fn read_at(rest: &[u8]) -> Command
     ensures { said result ≡ at_parts (parts_of rest.now) }
 {
     let Some((page, rest)) = split_at_space(rest) else {
@@ -113,24 +117,25 @@ fn read_number(digits: &[u8]) -> Option<u32>
     Some(number)
 }
 
-/// Reads what follows `type `: a text that is not empty, of printable ASCII without the backslash.
-fn read_typing(text: &[u8]) -> Command<'_>
-    ensures { said result ≡ typing text.now }
+/// Reads what follows `type `: a text that is not empty, of printable ASCII with the escapes of text lines.
+fn read_typing(alloc: Global, text: &[u8]) -> Result<Command, NoMemory>
+    ensures { IfOk result (λ command. said command ≡ typing text.now) }
 {
-    if text.is_empty() || !is_text(text) {
-        return Command::NotBuilt;
+    if text.is_empty() || !is_plain(text) {
+        return Ok(Command::NotBuilt);
     }
-    match std::str::from_utf8(text) {
-        Ok(text) => Command::Typing(text),
-        Err(_) => Command::NotBuilt,
+    let Ok(text) = std::str::from_utf8(text) else {
+        return Ok(Command::NotBuilt);
+    };
+    match unescape(alloc, text)? {
+        Some(characters) => Ok(Command::Typing(characters)),
+        None => Ok(Command::NotBuilt),
     }
 }
 
-/// Whether the bytes are printable ASCII without the backslash.
-fn is_text(bytes: &[u8]) -> bool
-    ensures { result ≡ is_text bytes.now }
+/// Whether the bytes are printable ASCII.
+pub fn is_plain(bytes: &[u8]) -> bool
+    ensures { result ≡ is_plain bytes.now }
 {
-    bytes
-        .iter()
-        .all(|c| matches!(*c, b' '..=b'~') && *c != b'\\')
+    bytes.iter().all(|c| matches!(*c, b' '..=b'~'))
 }

@@ -98,7 +98,7 @@ impl Editor {
         ensures state { OnOk result (self.new ≡ (step self.old line.now).0) }
         ensures answer { IfOk result (λ text. string_bytes text ≡ reply_text (step self.old line.now).1) }
     {
-        match read_command(line) {
+        match read_command(alloc, line)? {
             Command::Show => {
                 let text = self.show(alloc)?;
                 Ok(text)
@@ -206,10 +206,10 @@ impl Editor {
     }
 
     /// What `type` is answered.
-    fn answer_typing(&mut self, alloc: Global, text: &str) -> Result<String, NoMemory>
-        requires { chars text.now ≢ [] }
-        ensures state { OnOk result (self.new ≡ (typed self.old (chars text.now) self.old.caret).0) }
-        ensures answer { IfOk result (λ line. string_bytes line ≡ reply_text (typed self.old (chars text.now) self.old.caret).1) }
+    fn answer_typing(&mut self, alloc: Global, text: Chars) -> Result<String, NoMemory>
+        requires { text ≢ [] }
+        ensures state { OnOk result (self.new ≡ (typed self.old text self.old.caret).0) }
+        ensures answer { IfOk result (λ line. string_bytes line ≡ reply_text (typed self.old text self.old.caret).1) }
     {
         match self.type_text(alloc, text) {
             Ok(()) => {
@@ -225,10 +225,10 @@ impl Editor {
     }
 
     /// `type`: puts characters in at the caret, which then stands behind them.
-    fn type_text(&mut self, alloc: Global, text: &str) -> Result<(), TypeFault>
-        requires { chars text.now ≢ [] }
-        ensures ok { OnOk result (typed self.old (chars text.now) self.old.caret ≡ (self.new, Done)) }
-        ensures refused { IfErr result (IsRefusal (self.new ≡ self.old) (λ rule. typed self.old (chars text.now) self.old.caret ≡ (self.old, Refused (rule_of rule)))) }
+    fn type_text(&mut self, alloc: Global, text: Chars) -> Result<(), TypeFault>
+        requires { text ≢ [] }
+        ensures ok { OnOk result (typed self.old text self.old.caret ≡ (self.new, Done)) }
+        ensures refused { IfErr result (IsRefusal (self.new ≡ self.old) (λ rule. typed self.old text self.old.caret ≡ (self.old, Refused (rule_of rule)))) }
     {
         let Some(caret) = self.caret else {
             return Err(TypeFault::Rule(Rule::NoCaret));
@@ -249,30 +249,26 @@ impl Editor {
     fn type_into_text(
         &mut self,
         alloc: Global,
-        text: &str,
+        text: Chars,
         node: NodeName,
         at: usize,
         occurrence: usize,
     ) -> Result<(), TypeFault>
-        requires some { chars text.now ≢ [] }
+        requires some { text ≢ [] }
         requires place { IsPlaceOf self.old.source (place.Text node at) }
-        ensures ok { OnOk result (typed_at self.old (chars text.now) (place.Text node at) occurrence ≡ (self.new, Done)) }
-        ensures refused { IfErr result (IsRefusal (self.new ≡ self.old) (λ rule. typed_at self.old (chars text.now) (place.Text node at) occurrence ≡ (self.old, Refused (rule_of rule)))) }
+        ensures ok { OnOk result (typed_at self.old text (place.Text node at) occurrence ≡ (self.new, Done)) }
+        ensures refused { IfErr result (IsRefusal (self.new ≡ self.old) (λ rule. typed_at self.old text (place.Text node at) occurrence ≡ (self.old, Refused (rule_of rule)))) }
     {
+        let more = text.as_text().len();
         let room = MAX_TEXT_BYTES.saturating_sub(text_len(&self.source, node));
-        if byte_len(text) > room {
+        if more > room {
             return Err(TypeFault::Rule(Rule::Long));
         }
         if self.revision >= MAX_REVISIONS {
             return Err(TypeFault::Rule(Rule::Revisions));
         }
-        let prim = Primitive::InsertText(node, at, Chars::from_text(alloc, text)?);
-        self.change(
-            alloc,
-            prim,
-            CaretPlace::Text(node, at + byte_len(text)),
-            occurrence,
-        )?;
+        let prim = Primitive::InsertText(node, at, text);
+        self.change(alloc, prim, CaretPlace::Text(node, at + more), occurrence)?;
         Ok(())
     }
 
@@ -280,16 +276,17 @@ impl Editor {
     fn type_into_element(
         &mut self,
         alloc: Global,
-        text: &str,
+        text: Chars,
         node: NodeName,
         occurrence: usize,
     ) -> Result<(), TypeFault>
-        requires some { chars text.now ≢ [] }
+        requires some { text ≢ [] }
         requires place { IsPlaceOf self.old.source (place.Into node) }
-        ensures ok { OnOk result (typed_at self.old (chars text.now) (place.Into node) occurrence ≡ (self.new, Done)) }
-        ensures refused { IfErr result (IsRefusal (self.new ≡ self.old) (λ rule. typed_at self.old (chars text.now) (place.Into node) occurrence ≡ (self.old, Refused (rule_of rule)))) }
+        ensures ok { OnOk result (typed_at self.old text (place.Into node) occurrence ≡ (self.new, Done)) }
+        ensures refused { IfErr result (IsRefusal (self.new ≡ self.old) (λ rule. typed_at self.old text (place.Into node) occurrence ≡ (self.old, Refused (rule_of rule)))) }
     {
-        if byte_len(text) > MAX_TEXT_BYTES {
+        let more = text.as_text().len();
+        if more > MAX_TEXT_BYTES {
             return Err(TypeFault::Rule(Rule::Long));
         }
         let made = self.source.made();
@@ -301,14 +298,9 @@ impl Editor {
         }
         let number = NodeName(made + 1);
         let mut items = Items::new(alloc);
-        items.push(SubItem::Text(number, Chars::from_text(alloc, text)?))?;
+        items.push(SubItem::Text(number, text))?;
         let prim = Primitive::InsertChild(node, 0, items);
-        self.change(
-            alloc,
-            prim,
-            CaretPlace::Text(number, byte_len(text)),
-            occurrence,
-        )?;
+        self.change(alloc, prim, CaretPlace::Text(number, more), occurrence)?;
         Ok(())
     }
 

@@ -7,4 +7,5 @@ mod place;
 mod reply;
 mod view;
 
+pub use command::is_plain;
 pub use editor::Editor;

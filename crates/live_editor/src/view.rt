@@ -1,7 +1,7 @@
-ghost use Rattle.std.specs.Prelude.{◌≡◌, length, ◌++◌, ◌∷◌, [], IfOk, OnOk};
+ghost use Rattle.std.specs.Prelude.{◌≡◌, length, ◌++◌, ◌∷◌, [], IfOk, OnOk, map, encode_utf8_all};
 ghost use Rattle.std.specs.Str.{chars};
 ghost use Rattle.std.specs.String.{string_bytes};
-ghost use Rattle.plain_editor.specs.Editor.{Plain, reply_text};
+ghost use Rattle.plain_editor.specs.Editor.{Plain, reply_text, printed};
 ghost use Rattle.plain_editor.specs.Runs.{run, texts_of, node_runs, view_runs};
 ghost use Rattle.plain_editor.specs.Stops.{line_boundaries};
 ghost use Rattle.plain_editor.specs.Stops as stops;
@@ -160,8 +160,29 @@ fn push_run(view: &mut View, text: &str, origin: Origin) -> Result<(), NoMemory>
         column: view.column,
         origin: behind_start(origin, text.len()),
     })?;
-    view.line.push_str(text)?;
+    push_printed(&mut view.line, text)?;
     Ok(())
+}
+
+/// Adds a text as it is printed.
+fn push_printed(line: &mut String, text: &str) -> Result<(), NoMemory>
+    ensures { OnOk result (string_bytes line.new ≡ string_bytes line.old ++ encode_utf8_all (map printed (chars text.now))) }
+{
+    for character in text.chars() {
+        line.push(printed(character))?;
+    }
+    Ok(())
+}
+
+/// A character as it is printed: a tab and LF as a space.
+fn printed(character: char) -> char
+    ensures { result ≡ printed character }
+{
+    if character == '\t' || character == '\n' {
+        ' '
+    } else {
+        character
+    }
 }
 
 /// Where what stands so many bytes behind the start of a run comes from.

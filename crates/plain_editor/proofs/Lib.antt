@@ -1,3 +1,4 @@
+pub mod Plain
 pub mod Readings
 pub mod Renamed
 pub mod Rows

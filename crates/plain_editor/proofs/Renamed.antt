@@ -1,12 +1,13 @@
 -- The numbers of names do not show in the text of the view.
 use Rattle.std.proofs.Common.{◌≡◌, ℕ, zero, suc, ◌+◌, ◌==◌, List, [], ◌∷◌, ◌++◌, Bool, true, false, Option, Some, None, if◌then◌else◌, refl, sym, ap, ◌∙◌}
 use Rattle.std.specs.List.{flat_map}
-use Rattle.std.specs.Str.{chars}
 use Rattle.std.specs.Option.{option_map}
-use Rattle.serna_kinds.specs.Names.{NameParts}
+use Rattle.serna_kinds.specs.Names.{NameParts, Space}
 use Rattle.tree_lines.specs.Written.{Written}
 use Rattle.tree_lines.specs.Written as written
-use Rattle.tree_lines.specs.Given.{numbered_names, given_of, count_of}
+use Rattle.tree_lines.specs.Texts.{meant}
+use Rattle.tree_lines.specs.Given.{Given, count_of, with_text, given_in, spaces_of, given_of}
+use Rattle.tree_lines.specs.Given as given
 use Rattle.source_model.specs.Source.{Body, Forest, Source, numbers}
 use Rattle.source_model.specs.Source as source
 use Rattle.source_model.specs.Cells.{Spot, or_else, spot_in}
@@ -72,28 +73,59 @@ node_text-unnamed (suc left) s t n same =
     ∙ ap (spot_text (node_text left t)) (spot_in-unnamed None n s.tree)
     ∙ spot_text-unnamed (node_text left t) (node_text left s) (λ m. node_text-unnamed left s t m same) (spot_in None n s.tree)
 
+-- a tree with one name in place of every name, and without attributes
+abbrev nameless : Given → Given
+nameless given.end = given.end
+nameless (given.text t rest) = given.text t (nameless rest)
+nameless (given.comment t rest) = given.comment t (nameless rest)
+nameless (given.element name attributes content rest) = given.element (record { 0 = 0 }) [] (nameless content) (nameless rest)
+
+count_of-nameless : (g : Given) → count_of (nameless g) ≡ count_of g
+count_of-nameless given.end = refl
+count_of-nameless (given.text t rest) = ap (λ n. 1 + n) (count_of-nameless rest)
+count_of-nameless (given.comment t rest) = ap (λ n. 1 + n) (count_of-nameless rest)
+count_of-nameless (given.element name attributes content rest) =
+    ap (λ n. 1 + n + count_of (nameless rest)) (count_of-nameless content) ∙ ap (λ n. 1 + count_of content + n) (count_of-nameless rest)
+
+unnamed-numbered : (k : ℕ) (g : Given) → unnamed (numbered k g) ≡ numbered k (nameless g)
+unnamed-numbered k given.end = refl
+unnamed-numbered k (given.text t rest) = ap (source.node k (source.Text t) source.none) (unnamed-numbered (k + 1) rest)
+unnamed-numbered k (given.comment t rest) = ap (source.node k (source.Comment t) source.none) (unnamed-numbered (k + 1) rest)
+unnamed-numbered k (given.element name attributes content rest) =
+    ap (λ f. source.node k (source.Element (record { 0 = 0 }) []) f (unnamed (numbered (k + 1 + count_of content) rest))) (unnamed-numbered (k + 1) content)
+    ∙ ap (source.node k (source.Element (record { 0 = 0 }) []) (numbered (k + 1) (nameless content))) (unnamed-numbered (k + 1 + count_of content) rest)
+    ∙ ap (λ n. source.node k (source.Element (record { 0 = 0 }) []) (numbered (k + 1) (nameless content)) (numbered (k + 1 + n) (nameless rest))) (sym (count_of-nameless content))
+
 -- the tree without names is the same, whatever table numbers them
-count_of-with : (names : List NameParts) (d : Written) (names₁ : List NameParts) → count_of (numbered_names names d) ≡ count_of (numbered_names names₁ d)
-count_of-with names written.end names₁ = refl
-count_of-with names (written.text t rest) names₁ = ap (λ n. 1 + n) (count_of-with names rest names₁)
-count_of-with names (written.element n c r) names₁ =
-    ap (λ m. 1 + m + count_of (numbered_names names r)) (count_of-with names c names₁) ∙ ap (λ m. 1 + count_of (numbered_names names₁ c) + m) (count_of-with names r names₁)
+nameless-with_text : (t : List ℕ) (g : Given) → nameless (with_text t g) ≡ with_text t (nameless g)
+nameless-with_text [] g = refl
+nameless-with_text (c ∷ cs) given.end = refl
+nameless-with_text (c ∷ cs) (given.text t rest) = refl
+nameless-with_text (c ∷ cs) (given.comment t rest) = refl
+nameless-with_text (c ∷ cs) (given.element name attributes content rest) = refl
 
-unnamed-numbered : (names names₁ : List NameParts) (k : ℕ) (d : Written) → unnamed (numbered k (numbered_names names d)) ≡ unnamed (numbered k (numbered_names names₁ d))
-unnamed-numbered names names₁ k written.end = refl
-unnamed-numbered names names₁ k (written.text t rest) = ap (λ f. source.node k (source.Text (chars t)) source.none f) (unnamed-numbered names names₁ (k + 1) rest)
-unnamed-numbered names names₁ k (written.element n c r) =
-    ap (λ f. source.node k (source.Element (record { 0 = 0 }) []) f (unnamed (numbered (k + 1 + count_of (numbered_names names c)) (numbered_names names r)))) (unnamed-numbered names names₁ (k + 1) c)
-    ∙ ap (λ m. source.node k (source.Element (record { 0 = 0 }) []) (unnamed (numbered (k + 1) (numbered_names names₁ c))) (unnamed (numbered (k + 1 + m) (numbered_names names r)))) (count_of-with names c names₁)
-    ∙ ap (source.node k (source.Element (record { 0 = 0 }) []) (unnamed (numbered (k + 1) (numbered_names names₁ c)))) (unnamed-numbered names names₁ (k + 1 + count_of (numbered_names names₁ c)) r)
+nameless-given_in : (names names₁ : List NameParts) (spaces : List Space) (d : Written) → nameless (given_in names spaces d) ≡ nameless (given_in names₁ spaces d)
+nameless-given_in names names₁ spaces written.end = refl
+nameless-given_in names names₁ spaces (written.text t rest) =
+    nameless-with_text (meant t) (given_in names spaces rest) ∙ ap (with_text (meant t)) (nameless-given_in names names₁ spaces rest)
+    ∙ sym (nameless-with_text (meant t) (given_in names₁ spaces rest))
+nameless-given_in names names₁ spaces (written.comment t rest) = ap (given.comment (meant t)) (nameless-given_in names names₁ spaces rest)
+nameless-given_in names names₁ spaces (written.element name attributes content rest) =
+    ap (λ g. given.element (record { 0 = 0 }) [] g (nameless (given_in names spaces rest))) (nameless-given_in names names₁ spaces content)
+    ∙ ap (given.element (record { 0 = 0 }) [] (nameless (given_in names₁ spaces content))) (nameless-given_in names names₁ spaces rest)
 
-pub view_text-renamed : (names names₁ : List NameParts) (document : Written) → view_text (begun (given_of names document)) ≡ view_text (begun (given_of names₁ document))
+view_text-nameless : (spaces : List Space) (g : Given) → view_text (begun spaces (nameless g)) ≡ view_text (begun spaces g)
 unfolding view_text begun
-view_text-renamed names names₁ document =
-    let d : Written = written.joined document in
-    let empty : Source = record { tree = source.node 0 source.Root (unnamed (numbered 1 (numbered_names names d))) source.none; made = 0; spaces = [] } in
-    sym (node_text-unnamed 200 (record { tree = source.node 0 source.Root (numbered 1 (numbered_names names d)) source.none; made = count_of (numbered_names names d); spaces = [] }) empty 0 refl)
-    ∙ node_text-unnamed 200 (record { tree = source.node 0 source.Root (numbered 1 (numbered_names names₁ d)) source.none; made = count_of (numbered_names names₁ d); spaces = [] }) empty 0
-    (ap (λ f. source.node 0 source.Root f source.none) (unnamed-numbered names₁ names 1 d))
+view_text-nameless spaces g =
+    node_text-unnamed 200 (record { tree = source.node 0 source.Root (numbered 1 g) source.none; made = count_of g; spaces = spaces })
+    (record { tree = source.node 0 source.Root (numbered 1 (nameless g)) source.none; made = count_of (nameless g); spaces = spaces }) 0
+    (ap (λ f. source.node 0 source.Root f source.none) (unnamed-numbered 1 g))
+
+pub view_text-renamed : (names names₁ : List NameParts) (spaces : List Space) (document : Written) →
+    view_text (begun spaces (given_of names document)) ≡ view_text (begun spaces (given_of names₁ document))
+view_text-renamed names names₁ spaces document =
+    sym (view_text-nameless spaces (given_of names document))
+    ∙ ap (λ g. view_text (begun spaces g)) (nameless-given_in names names₁ (spaces_of document) document)
+    ∙ view_text-nameless spaces (given_of names₁ document)
 
 pub ruleset all = view_text-renamed

@@ -1,14 +1,13 @@
 -- The text of the view is what the text lines of the document say, one after another.
-use Rattle.std.proofs.Common.{◌≡◌, ℕ, zero, suc, ◌+◌, ◌<◌, ◌≤◌, List, [], ◌∷◌, ◌++◌, Option, Some, None, true, refl, sym, ap, ◌∙◌, inl, inr, arith, append_assoc}
-use Rattle.std.proofs.lemmas.Str.{chars-nil, chars-append, IsUtf8-from_ascii}
+use Rattle.std.proofs.Common.{◌≡◌, ℕ, zero, suc, ◌+◌, ◌<◌, ◌≤◌, List, [], ◌∷◌, ◌++◌, Option, Some, None, refl, ap, ◌∙◌, inl, inr, arith, append_assoc}
 use Rattle.std.specs.List.{flat_map}
-use Rattle.std.specs.Str.{chars}
-use Rattle.serna_kinds.specs.Names.{NameParts}
-use Rattle.tree_lines.specs.Written.{Written, IsSpelled, with_text, joined}
+use Rattle.serna_kinds.specs.Names.{NameParts, Space}
+use Rattle.tree_lines.specs.Texts.{meant}
+use Rattle.tree_lines.specs.Written.{Written}
 use Rattle.tree_lines.specs.Written as written
-use Rattle.tree_lines.specs.Given.{Given, numbered_names, given_of, count_of, IsDocument}
+use Rattle.tree_lines.specs.Documents.{IsDocument}
+use Rattle.tree_lines.specs.Given.{Given, count_of, with_text, given_in, spaces_of, given_of, IsWhole}
 use Rattle.tree_lines.specs.Given as given
-use Rattle.tree_lines.proofs.Joining.{IsAscii-from_text}
 use Rattle.source_model.specs.Source.{Body, Forest, Source, numbers}
 use Rattle.source_model.specs.Source as source
 use Rattle.source_model.specs.Cells.{Spot, or_else, spot_in, spot_of}
@@ -85,30 +84,35 @@ kids_text (given.element name attributes content rest) s k (suc left) p d =
     (node_text-suc left s k ∙ ap (spot_text (node_text left s)) p.0.1 ∙ kids_text content s (k + 1) left p.1 (omega arith))
     ∙ ap (λ x. text_in content ++ x) (kids_text rest s (k + 1 + count_of content) (suc left) p.2 (omega arith))
 
-view_text-begun : (g : Given) → given.depth_of g ≤ 120 → view_text (begun g) ≡ text_in g
+view_text-begun : (spaces : List Space) (g : Given) → given.depth_of g ≤ 120 → view_text (begun spaces g) ≡ text_in g
 unfolding view_text begun
-view_text-begun g d =
-    let s : Source = record { tree = source.node 0 source.Root (numbered 1 g) source.none; made = count_of g; spaces = [] } in
+view_text-begun spaces g d =
+    let s : Source = record { tree = source.node 0 source.Root (numbered 1 g) source.none; made = count_of g; spaces = spaces } in
     let all : Placed (spot_of s) 1 g =
     placed (spot_of s) (Some 0) 1 g (λ n from to. if_other n 0 _ _ (λ e. absurd (omega arith)) ∙ or_else-none (spot_in (Some 0) n (numbered 1 g))) in
     node_text-suc 199 s 0 ∙ kids_text g s 1 199 all (omega arith)
 
 -- joining neighbours, and numbering names, keep the text
-with_text-text : (names : List NameParts) (t : List ℕ) (rest : Written) → written.is_text t ≡ true → text_in (numbered_names names (with_text t rest)) ≡ chars t ++ text_in (numbered_names names rest)
-with_text-text names [] rest is = ap (λ x. x ++ text_in (numbered_names names rest)) (sym chars-nil)
-with_text-text names (c ∷ cs) written.end is = refl
-with_text-text names (c ∷ cs) (written.text u rest) is =
-    ap (λ x. x ++ text_in (numbered_names names rest)) (chars-append (c ∷ cs) u (IsUtf8-from_ascii (c ∷ cs) (IsAscii-from_text (c ∷ cs) is)))
-    ∙ append_assoc (chars (c ∷ cs)) (chars u) (text_in (numbered_names names rest))
-with_text-text names (c ∷ cs) (written.element name content rest) is = refl
+text_in-with_text : (t : List ℕ) (g : Given) → text_in (with_text t g) ≡ t ++ text_in g
+text_in-with_text [] g = refl
+text_in-with_text (c ∷ cs) given.end = refl
+text_in-with_text (c ∷ cs) (given.text t rest) = append_assoc (c ∷ cs) t (text_in rest)
+text_in-with_text (c ∷ cs) (given.comment t rest) = refl
+text_in-with_text (c ∷ cs) (given.element name attributes content rest) = refl
 
-text_in-given_of : (names : List NameParts) (d : Written) → IsSpelled d → text_in (numbered_names names (joined d)) ≡ written_text d
-text_in-given_of names written.end is = refl
-text_in-given_of names (written.text t rest) is = with_text-text names t (joined rest) is.0 ∙ ap (λ x. chars t ++ x) (text_in-given_of names rest is.1)
-text_in-given_of names (written.element name content rest) is =
-    ap (λ x. x ++ text_in (numbered_names names (joined rest))) (text_in-given_of names content is.1) ∙ ap (λ x. written_text content ++ x) (text_in-given_of names rest is.2)
+text_in-given_in : (names : List NameParts) (spaces : List Space) (d : Written) → text_in (given_in names spaces d) ≡ written_text d
+text_in-given_in names spaces written.end = refl
+text_in-given_in names spaces (written.text t rest) =
+    text_in-with_text (meant t) (given_in names spaces rest) ∙ ap (λ x. meant t ++ x) (text_in-given_in names spaces rest)
+text_in-given_in names spaces (written.comment t rest) = text_in-given_in names spaces rest
+text_in-given_in names spaces (written.element name attributes content rest) =
+    ap (λ x. x ++ text_in (given_in names spaces rest)) (text_in-given_in names spaces content) ∙ ap (λ x. written_text content ++ x) (text_in-given_in names spaces rest)
 
-pub view_text-start : (d : Written) → IsDocument d → view_text (start d) ≡ written_text d
-view_text-start d is =
-    let w = is.whole (names_of d) in
-    view_text-begun (given_of (names_of d) d) w.shallow ∙ text_in-given_of (names_of d) d is.spelled
+-- the tree of a document is whole
+abbrev pub AreWhole : Type 0
+AreWhole = (names : List NameParts) (document : Written) → IsDocument document → IsWhole (given_of names document)
+
+pub view_text-start : AreWhole → (d : Written) → IsDocument d → view_text (start d) ≡ written_text d
+view_text-start whole d is =
+    let w = whole (names_of d) d is in
+    view_text-begun (spaces_of d) (given_of (names_of d) d) w.shallow ∙ text_in-given_in (names_of d) (spaces_of d) d

@@ -1,14 +1,11 @@
 -- Each step keeps the editor sound.
-use Rattle.std.proofs.Common.{◌≡◌, ◌≢◌, ℕ, ◌+◌, ◌<◌, ◌≤◌, ◌⊎◌, inl, inr, Bool, true, false, List, [], ◌∷◌, ◌++◌, filter, filter_map, Option, Some, None, encode_utf8_all, if◌then◌else◌, refl, sym, ap, ◌∙◌, subst, arith, bytes_eq}
-use Rattle.std.proofs.lemmas.Bool.{cases_eq, false≢true, ltb-false, leb-false}
+use Rattle.std.proofs.Common.{◌≡◌, ◌≢◌, ℕ, ◌+◌, ◌<◌, ◌≤◌, ◌⊎◌, inl, inr, Bool, true, false, List, [], ◌∷◌, ◌++◌, filter, filter_map, Option, Some, None, ◌&&◌, if◌then◌else◌, refl, sym, ap, ◌∙◌, subst, arith, bytes_eq}
+use Rattle.std.proofs.lemmas.Bool.{and_parts, cases_eq, ltb-false, leb-false}
 use Rattle.std.proofs.lemmas.Option.{none-some}
-use Rattle.std.proofs.lemmas.Str.{encodes-chars, IsUtf8-from_ascii}
 use Rattle.std.specs.List.{AllByRecursion, cons_option}
-use Rattle.std.specs.Str.{chars}
 use Rattle.serna_kinds.specs.declared.cells.NodeName.{NodeName}
 use Rattle.serna_kinds.specs.Names.{NameParts}
-use Rattle.tree_lines.specs.Written.{is_text}
-use Rattle.tree_lines.proofs.Joining.{IsAscii-from_text}
+use Rattle.tree_lines.specs.Texts.{has_escapes, meant}
 use Rattle.source_model.specs.Source.{Body, Forest, Source}
 use Rattle.source_model.specs.Source as source
 use Rattle.source_model.specs.Cells.{Spot, spot_in, spot_of, or_else, named}
@@ -25,10 +22,12 @@ use Rattle.source_tree.specs.Places.{IsPlaceOf, carried, carried_through}
 use Rattle.source_tree.proofs.ProperKept.{proper_kept}
 use Rattle.plain_editor.specs.Runs.{Origin, At, Fixed}
 use Rattle.plain_editor.specs.Stops.{Stop}
+use Rattle.plain_editor.specs.Input.{is_plain}
 use Rattle.plain_editor.specs.Commands.{Command, at_place, at_parts, read_number, typing, command_of, behind_front, parts_of, show_word, where_word, source_word, at_word, type_word}
 use Rattle.plain_editor.specs.Commands as command
 use Rattle.plain_editor.specs.Editor.{Editor, Reply, opened, stands_at, caret_of, put_first, put_at, changed, bytes_of, bytes_at, typed_at, typed, told, obeyed, step}
 use Rattle.plain_editor.specs.Sound.{IsCaretOf, IsLive, AreLive, IsInsertion, IsSound}
+use Rattle.plain_editor.proofs.Plain.{plain_meant}
 use Rattle.plain_editor.proofs.Runs.{view_live}
 use Rattle.plain_editor.proofs.PlacesKept.{place_kept, behind_piece, behind_new}
 
@@ -205,18 +204,11 @@ said_parts (page ∷ line ∷ []) = tt
 said_parts (page ∷ line ∷ column ∷ []) = said_place (read_number page) (read_number line) (read_number column)
 said_parts (page ∷ line ∷ column ∷ more ∷ parts) = tt
 
-abbrev is_none : List ℕ → Bool
-is_none [] = true
-is_none (c ∷ cs) = false
-
-typed_some : (c : ℕ) (cs : List ℕ) → is_text (c ∷ cs) ≡ true → chars (c ∷ cs) ≡ [] → ⊥
-typed_some c cs is e =
-    let same : encode_utf8_all (chars (c ∷ cs)) ≡ c ∷ cs = encodes-chars (c ∷ cs) (IsUtf8-from_ascii (c ∷ cs) (IsAscii-from_text (c ∷ cs) is)) in
-    false≢true (sym (ap is_none same) ∙ ap (λ t. is_none (encode_utf8_all t)) e)
-
 said_typing : (text : List ℕ) → IsSaid (typing text)
 said_typing [] = tt
-said_typing (c ∷ cs) = said_if (is_text (c ∷ cs)) (command.Typing (chars (c ∷ cs))) command.NotBuilt (λ is. typed_some c cs is) tt
+said_typing (c ∷ cs) =
+    said_if (is_plain (c ∷ cs) && has_escapes (c ∷ cs)) (command.Typing (meant (c ∷ cs))) command.NotBuilt
+    (λ is. plain_meant c cs (and_parts (is_plain (c ∷ cs)) (has_escapes (c ∷ cs)) is).0) tt
 
 said_behind_type : (o : Option (List ℕ)) → IsSaid (elim o [ Some text ↦ typing text | None ↦ command.NotBuilt ])
 said_behind_type None = tt

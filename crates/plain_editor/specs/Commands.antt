@@ -1,9 +1,10 @@
 -- The command lines of a script (this project's own): `show`, `where` and `source`; `at P L C`, each a number of one to nine digits; `type TEXT`, the text
--- not empty and of the form that the text lines of a document have. Every other line is of a form that is not built.
+-- not empty, in printable ASCII, with the escapes of a document's text lines. Every other line is of a form that is not built.
 use Rattle.std.specs.Prelude.{ℕ, ◌+◌, ◌*◌, ◌-◌, ◌==◌, ◌&&◌, nat_le, List, [], ◌∷◌, fold, length, Option, Some, None, codes, bytes_eq, if◌then◌else◌}
 use Rattle.std.specs.List.{onto_first, list_all}
-use Rattle.std.specs.Str.{chars}
-use Rattle.tree_lines.specs.Written.{is_digit, is_text}
+use Rattle.serna_kinds.specs.Qualified.{is_digit}
+use Rattle.tree_lines.specs.Texts.{has_escapes, meant}
+use Rattle.plain_editor.specs.Input.{is_plain}
 
 pub data Command : Type 0 where
   Show : Command
@@ -62,7 +63,7 @@ at_parts (page ∷ line ∷ column ∷ more ∷ parts) = NotBuilt
 
 abbrev pub typing : List ℕ → Command
 typing [] = NotBuilt
-typing (c ∷ cs) = if is_text (c ∷ cs) then Typing (chars (c ∷ cs)) else NotBuilt
+typing (c ∷ cs) = if is_plain (c ∷ cs) && has_escapes (c ∷ cs) then Typing (meant (c ∷ cs)) else NotBuilt
 
 -- the command that a line says
 abbrev pub command_of : List ℕ → Command

@@ -1,10 +1,10 @@
 -- The plain editor: it holds one source, changes it at each accepted keystroke at the place of the caret alone, and at every `show`
 -- gives the text of the whole source anew (this project's own).
-use Rattle.std.specs.Prelude.{ℕ, ◌+◌, nat_lt, nat_le, Bool, false, List, [], ◌∷◌, ◌++◌, filter, filter_map, length, Option, Some, None, codes, decimal, encode_utf8_all, if◌then◌else◌, ◌&&◌, ◌==◌}
+use Rattle.std.specs.Prelude.{ℕ, ◌+◌, nat_lt, nat_le, Bool, false, List, [], ◌∷◌, ◌++◌, filter, filter_map, length, Option, Some, None, codes, decimal, encode_utf8_all, if◌then◌else◌, ◌&&◌, ◌||◌, ◌==◌, map}
 use Rattle.serna_kinds.specs.Names.{NameParts}
-use Rattle.tree_lines.specs.Written.{Written}
+use Rattle.tree_lines.specs.Written.{Written, written_lines}
 use Rattle.tree_lines.specs.Tokens.{names_with}
-use Rattle.tree_lines.specs.Given.{given_of}
+use Rattle.tree_lines.specs.Given.{spaces_of, given_of}
 use Rattle.source_model.specs.Source.{Source}
 use Rattle.source_model.specs.Cells.{named}
 use Rattle.source_model.specs.Changes.{text_at}
@@ -25,13 +25,13 @@ use Rattle.plain_editor.specs.Stops.{Stop, is_same_place, view_stops}
 use Rattle.plain_editor.specs.Commands.{Command, command_of}
 use Rattle.plain_editor.specs.Commands as command
 
--- the table of the names of a document's elements
+-- the table of the names of a document's elements and attributes
 abbrev pub names_of : Written → List NameParts
-names_of document = names_with [] document
+names_of document = names_with [] (written_lines document)
 
 -- the source that the editor starts with
 abbrev pub start : Written → Source
-start document = begun (given_of (names_of document) document)
+start document = begun (spaces_of document) (given_of (names_of document) document)
 
 -- the editor's state: the table of names, the source, how many changes it has accepted, the caret, the stops of the last show, and the prims since then
 pub record Editor : Type 0 where
@@ -95,9 +95,13 @@ standing_words Stale = codes "stale"
 standing_words Hidden = codes "hidden"
 standing_words (Shown page line column) = spaced (decimal page) (spaced (decimal line) (decimal column))
 
+-- a character as it is printed in a line: a tab and LF as a space
+abbrev pub printed : ℕ → ℕ
+printed c = if c == 9 || c == 10 then 32 else c
+
 -- what is written for a reply, each line with its LF
 abbrev pub reply_text : Reply → List ℕ
-reply_text (Plain text) = codes "plain " ++ (encode_utf8_all text ++ 10 ∷ [])
+reply_text (Plain text) = codes "plain " ++ (encode_utf8_all (map printed text) ++ 10 ∷ [])
 reply_text (Told place standing) = spaced (place_words place) (standing_words standing ++ 10 ∷ [])
 reply_text (Lines text) = text
 reply_text Done = codes "ok" ++ 10 ∷ []
@@ -208,7 +212,7 @@ obeyed editor command.Show = (shown editor, Plain (texts_of (view_runs editor.so
 obeyed editor (command.At page line column) = put_at editor page line column editor.stops
 obeyed editor (command.Typing text) = typed editor text editor.caret
 obeyed editor command.Where = told editor editor.caret
-obeyed editor command.Tree = (editor, Lines (canonical_text editor.names (document_of editor.source)))
+obeyed editor command.Tree = (editor, Lines (canonical_text editor.names editor.source.spaces (document_of editor.source)))
 obeyed editor command.NotBuilt = (editor, Refused NotBuilt)
 
 -- what a command line makes of the editor, and what it is answered

@@ -1,6 +1,6 @@
--- Worked examples of the definitions: two inputs with what is answered to them, three that are no input, and two scripts that type.
+-- Worked examples of the definitions: three inputs with what is answered to them, three that are no input, and scripts that type.
 use Rattle.std.specs.Prelude.{ℕ, List, [], ◌∷◌, ◌++◌, codes}
-use Rattle.tree_lines.specs.Written.{Written}
+use Rattle.tree_lines.specs.Written.{Written, Attribute}
 use Rattle.tree_lines.specs.Written as written
 use Rattle.plain_editor.specs.Input.{document_head, script_head}
 use Rattle.plain_editor.specs.Commands.{show_word}
@@ -36,10 +36,10 @@ abbrev pub another_head : List ℕ
 another_head = text_of_lines (script_head ∷ (40 ∷ doc) ∷ (41 ∷ doc) ∷ script_head ∷ [])
 
 abbrev pub empty_doc : Written
-empty_doc = written.element doc written.end written.end
+empty_doc = written.element doc [] written.end written.end
 
 abbrev pub oak_doc : Written
-oak_doc = written.element doc (written.text oak written.end) written.end
+oak_doc = written.element doc [] (written.text oak written.end) written.end
 
 -- `plain` and a space; `plain Oak`
 abbrev pub plain : List ℕ → List ℕ
@@ -66,3 +66,27 @@ asks = codes "where" ∷ show_word ∷ codes "at 1 1 0" ∷ codes "where" ∷ co
 abbrev pub told_what_it_asks : List ℕ
 told_what_it_asks =
     text_of_lines (codes "refused no-caret" ∷ codes "plain " ∷ codes "ok" ∷ codes "caret 1 into 1 1 0" ∷ codes "ok" ∷ codes "caret 2 1 stale" ∷ codes "(doc" ∷ codes "-a" ∷ codes ")doc" ∷ codes "plain a" ∷ codes "caret 2 1 1 1 1" ∷ [])
+
+-- a document with a comment, a prefix that it declares, an attribute, a text and an empty element; and a script that shows it, asks for
+-- its lines, types a tab and a backslash behind the text, asks where the caret is, and shows it again
+abbrev pub attribute : List ℕ → List ℕ → Attribute
+attribute name value = record { name = name; value = value }
+
+abbrev pub full_doc : Written
+full_doc =
+    written.comment (codes "note") (written.element (codes "p:doc") (attribute (codes "xmlns:p") (codes "urn:p") ∷ attribute (codes "id") (codes "a\\n1") ∷ [])
+    (written.text oak (written.element (codes "b") [] written.end written.end)) written.end)
+
+abbrev pub full_lines : List (List ℕ)
+full_lines =
+    codes "Cnote" ∷ codes "(p:doc" ∷ codes "Axmlns:p urn:p" ∷ codes "Aid a\\n1" ∷ codes "-Oak" ∷ codes "(b" ∷ codes ")b" ∷ codes ")p:doc" ∷ []
+
+abbrev pub full_script : List (List ℕ)
+full_script = show_word ∷ codes "source" ∷ codes "at 1 1 3" ∷ codes "type \\t\\\\" ∷ codes "where" ∷ codes "type \\q" ∷ show_word ∷ []
+
+abbrev pub full_document : List ℕ
+full_document = text_of_lines (document_head ∷ (full_lines ++ (script_head ∷ full_script)))
+
+abbrev pub full_answers : List ℕ
+full_answers =
+    text_of_lines (codes "plain Oak" ∷ (full_lines ++ (codes "ok" ∷ codes "ok" ∷ codes "caret 3 5 stale" ∷ codes "refused not-built" ∷ codes "plain Oak \\" ∷ [])))

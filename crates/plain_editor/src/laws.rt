@@ -1,7 +1,8 @@
 ghost use Rattle.std.specs.Prelude.{◌≡◌, ◌+◌, ℕ, List, [], ◌∷◌, Some};
-ghost use Rattle.serna_kinds.specs.Names.{NameParts};
+ghost use Rattle.serna_kinds.specs.Names.{NameParts, Space};
 ghost use Rattle.tree_lines.specs.Written.{Written};
-ghost use Rattle.tree_lines.specs.Given.{IsDocument, given_of};
+ghost use Rattle.tree_lines.specs.Given.{given_of};
+ghost use Rattle.tree_lines.specs.Documents.{IsDocument};
 ghost use Rattle.source_model.specs.PlainText.{view_text};
 ghost use Rattle.source_tree.specs.Begun.{begun};
 ghost use Rattle.plain_editor.specs.Input.{IsInput};
@@ -18,10 +19,9 @@ ghost use Rattle.source_model.specs.Cells.{named};
 ghost use Rattle.source_model.specs.Changes.{text_at};
 ghost use Rattle.source_tree.specs.declared.prim.CaretPlace.TheVariants as place;
 ghost use Rattle.plain_editor.specs.Texts.{written_text};
-ghost use Rattle.plain_editor.specs.Rows.{oak, empty_document, one_text, cut_off, text_outside, another_head, empty_doc, oak_doc, plain, types_at_end, typed_at_end, types_into, typed_into, asks, told_what_it_asks};
+ghost use Rattle.plain_editor.specs.Rows.{oak, empty_document, one_text, cut_off, text_outside, another_head, empty_doc, oak_doc, plain, types_at_end, typed_at_end, types_into, typed_into, asks, told_what_it_asks, full_doc, full_document, full_script, full_answers};
 
 /// An input has one reading at most: one document and one script.
-#[tactic(auto, using(crate::proofs::Readings::one_reading))]
 pub fn one_reading()
     ensures { (input : List ℕ) (d e : Written) (s t : List (List ℕ)) → IsInput input d s → IsInput input e t → (d ≡ e) × (s ≡ t) }
 {}
@@ -29,11 +29,11 @@ pub fn one_reading()
 /// Under which numbers a table keeps the names of a document does not show in the text of the view.
 #[tactic(auto, using(crate::proofs::Renamed::all))]
 pub fn names_do_not_show()
-    ensures { (names others : List NameParts) (document : Written) →
-        view_text (begun (given_of names document)) ≡ view_text (begun (given_of others document)) }
+    ensures { (names others : List NameParts) (spaces : List Space) (document : Written) →
+        view_text (begun spaces (given_of names document)) ≡ view_text (begun spaces (given_of others document)) }
 {}
 
-/// Worked examples of the definitions: two inputs with what is answered to them, two scripts that type, and three that are no input.
+/// Worked examples of the definitions: three inputs with what is answered to them, scripts that type, and three that are no input.
 pub fn worked_examples()
     ensures empty { IsInput empty_document empty_doc (show_word ∷ []) }
     ensures empty_shown { replies (opened (names_of empty_doc) (start empty_doc)) (show_word ∷ []) ≡ plain [] }
@@ -42,6 +42,8 @@ pub fn worked_examples()
     ensures at_end { replies (opened (names_of oak_doc) (start oak_doc)) types_at_end ≡ typed_at_end }
     ensures into { replies (opened (names_of empty_doc) (start empty_doc)) types_into ≡ typed_into }
     ensures told { replies (opened (names_of empty_doc) (start empty_doc)) asks ≡ told_what_it_asks }
+    ensures full { IsInput full_document full_doc full_script }
+    ensures full_answered { replies (opened (names_of full_doc) (start full_doc)) full_script ≡ full_answers }
     ensures cut { (d : Written) (s : List (List ℕ)) → IsInput cut_off d s → ⊥ }
     ensures outside { (d : Written) (s : List (List ℕ)) → IsInput text_outside d s → ⊥ }
     ensures head { (d : Written) (s : List (List ℕ)) → IsInput another_head d s → ⊥ }

@@ -6,7 +6,7 @@ use Rattle.tree_lines.specs.Written.{Written}
 use Rattle.serna_outside.specs.Outside.{Appends, Consumes, IsAtEnd, Rose}
 use Rattle.plain_editor.specs.Input.{IsInput}
 use Rattle.plain_editor.specs.Editor.{names_of, start, opened, replies}
-use Rattle.plain_editor.proofs.Readings.{one_reading}
+use Rattle.plain_editor.proofs.Readings.{AreToldByLines, one_reading}
 use Rattle.serna_main.specs.declared.status.Status.{Status}
 use Rattle.serna_main.specs.declared.status.Status.TheVariants as status
 use Rattle.serna_main.specs.Outside.{AppendsFront}
@@ -14,16 +14,16 @@ use Rattle.serna_main.specs.Out.{refusal, IsRefused, IsReplied, IsAnswered, IsCl
 use Rattle.serna_main.proofs.Bytes.{front_all}
 
 -- what is a front of the replies to one reading is a front of whatever is out for the input
-pub front_accepted : (input : List ℕ) (d : Written) (s : List (List ℕ)) (h h₁ : Option (List ℕ)) → IsInput input d s → AppendsFront h h₁ (replies (opened (names_of d) (start d)) s) →
+pub front_accepted : AreToldByLines → (input : List ℕ) (d : Written) (s : List (List ℕ)) (h h₁ : Option (List ℕ)) → IsInput input d s → AppendsFront h h₁ (replies (opened (names_of d) (start d)) s) →
     (bytes : List ℕ) (other : Status) → IsReplied input bytes other → AppendsFront h h₁ bytes
-front_accepted input d s h h₁ is f bytes status.Ok out =
-    let same = one_reading input d out.0 s out.1 is out.2 in
+front_accepted told input d s h h₁ is f bytes status.Ok out =
+    let same = one_reading told input d out.0 s out.1 is out.2 in
     subst (AppendsFront h h₁) (sym (out.3 ∙ ap (λ e. replies (opened (names_of e) (start e)) out.1) (sym same.0) ∙ ap (replies (opened (names_of d) (start d))) (sym same.1))) f
-front_accepted input d s h h₁ is f bytes status.InputRefused out = absurd (out.0 d s is)
-front_accepted input d s h h₁ is f bytes status.BadWords out = absurd out
-front_accepted input d s h h₁ is f bytes status.ReadFault out = absurd out
-front_accepted input d s h h₁ is f bytes status.WriteFault out = absurd out
-front_accepted input d s h h₁ is f bytes status.NoMemory out = absurd out
+front_accepted told input d s h h₁ is f bytes status.InputRefused out = absurd (out.0 d s is)
+front_accepted told input d s h h₁ is f bytes status.BadWords out = absurd out
+front_accepted told input d s h h₁ is f bytes status.ReadFault out = absurd out
+front_accepted told input d s h h₁ is f bytes status.WriteFault out = absurd out
+front_accepted told input d s h h₁ is f bytes status.NoMemory out = absurd out
 
 pub front_refused : (input : List ℕ) (h h₁ : Option (List ℕ)) → IsRefused input → AppendsFront h h₁ refusal → (bytes : List ℕ) (other : Status) → IsReplied input bytes other → AppendsFront h h₁ bytes
 front_refused input h h₁ is f bytes status.Ok out = absurd (is out.0 out.1 out.2)
@@ -34,30 +34,30 @@ front_refused input h h₁ is f bytes status.WriteFault out = absurd out
 front_refused input h h₁ is f bytes status.NoMemory out = absurd out
 
 -- a script that was answered whole, and closed
-pub answered_ok : (input : List ℕ) (d : Written) (s : List (List ℕ)) (h h₁ : Option (List ℕ)) (f f₁ : ℕ) (finished : Type 0) (ended : Status) → IsInput input d s →
+pub answered_ok : AreToldByLines → (input : List ℕ) (d : Written) (s : List (List ℕ)) (h h₁ : Option (List ℕ)) (f f₁ : ℕ) (finished : Type 0) (ended : Status) → IsInput input d s →
     Appends h h₁ (replies (opened (names_of d) (start d)) s) → IsClosed status.Ok ended f f₁ finished → IsAnswered input ended h h₁ f f₁ finished
-answered_ok input d s h h₁ f f₁ finished status.Ok is written closed = record {
+answered_ok told input d s h h₁ f f₁ finished status.Ok is written closed = record {
   out = λ w. (replies (opened (names_of d) (start d)) s, (d, s, is, refl), written);
-  front = front_accepted input d s h h₁ is (front_all h h₁ (replies (opened (names_of d) (start d)) s) written);
+  front = front_accepted told input d s h h₁ is (front_all h h₁ (replies (opened (names_of d) (start d)) s) written);
   closed = λ e. closed.0;
   kept = λ e. closed.1;
   write_fault = λ e. cc;
   no_read_fault = λ e. cc;
   no_words = λ e. cc;
 }
-answered_ok input d s h h₁ f f₁ finished status.WriteFault is written closed = record {
+answered_ok told input d s h h₁ f f₁ finished status.WriteFault is written closed = record {
   out = λ w. absurd w;
-  front = front_accepted input d s h h₁ is (front_all h h₁ (replies (opened (names_of d) (start d)) s) written);
+  front = front_accepted told input d s h h₁ is (front_all h h₁ (replies (opened (names_of d) (start d)) s) written);
   closed = λ e. cc;
   kept = λ e. cc;
   write_fault = λ e. closed;
   no_read_fault = λ e. cc;
   no_words = λ e. cc;
 }
-answered_ok input d s h h₁ f f₁ finished status.BadWords is written closed = absurd closed
-answered_ok input d s h h₁ f f₁ finished status.InputRefused is written closed = absurd closed
-answered_ok input d s h h₁ f f₁ finished status.ReadFault is written closed = absurd closed
-answered_ok input d s h h₁ f f₁ finished status.NoMemory is written closed = absurd closed
+answered_ok told input d s h h₁ f f₁ finished status.BadWords is written closed = absurd closed
+answered_ok told input d s h h₁ f f₁ finished status.InputRefused is written closed = absurd closed
+answered_ok told input d s h h₁ f f₁ finished status.ReadFault is written closed = absurd closed
+answered_ok told input d s h h₁ f f₁ finished status.NoMemory is written closed = absurd closed
 
 -- a run that want of memory ended
 pub answered_no_memory : (input : List ℕ) (h h₁ : Option (List ℕ)) (f f₁ : ℕ) (finished : Type 0) (ended : Status) →

@@ -1,17 +1,18 @@
 -- The lines of an input from its front, and the sections that they make.
-use Rattle.std.proofs.Common.{◌≡◌, ℕ, suc, ◌+◌, ◌<◌, ◌≤◌, ◌==◌, inl, inr, not, Bool, true, false, List, [], ◌∷◌, ◌++◌, take, drop, length, get_or, unwrap_or, Some, None, if◌then◌else◌, refl, sym, ap, ◌∙◌, subst, arith, append_assoc, length-append, zero-add}
-use Rattle.std.proofs.lemmas.Bool.{cases_Bool, cases_lt, lt-ltb, le-ltb}
+use Rattle.std.proofs.Common.{◌≡◌, ℕ, suc, ◌+◌, ◌<◌, ◌≤◌, ◌==◌, inl, inr, not, ◌&&◌, Bool, true, false, List, [], ◌∷◌, ◌++◌, take, drop, length, get_or, unwrap_or, Some, None, if◌then◌else◌, refl, sym, ap, ◌∙◌, subst, arith, append_assoc, length-append, zero-add}
+use Rattle.std.proofs.lemmas.Bool.{and_parts, true≢false, cases_Bool, cases_lt, lt-ltb, le-ltb}
 use Rattle.std.proofs.lemmas.List.{take_at, take-map, drop-map, length-map}
 use Rattle.std.proofs.lemmas.Slice.Eq.{bytes_eq-Decides}
 use Rattle.std.proofs.lemmas.List.Sums.{passes_at_first, split_at_first}
-use Rattle.std.specs.List.{onto_first, position_or_len, position}
+use Rattle.std.specs.List.{list_all, onto_first, position_or_len, position}
 use Rattle.std.specs.Str.{bytes_eq}
 use Rattle.tree_lines.specs.declared.tree.Line.{Line}
 use Rattle.tree_lines.specs.Written.{Written, written_lines}
-use Rattle.tree_lines.specs.Written as written
-use Rattle.tree_lines.specs.Given.{IsDocument}
-use Rattle.plain_editor.specs.Input.{lines_of, document_head, script_head, IsInput}
+use Rattle.tree_lines.specs.Documents.{IsDocument}
+use Rattle.plain_editor.specs.Input.{lines_of, document_head, script_head, is_plain, IsInput}
+use Rattle.plain_editor.proofs.Readings.{AreNoHeads, written_no_heads, not_head}
 use Rattle.serna_main.specs.Lines.{numbered_lines}
+use Rattle.serna_main.specs.Sections.{ArePlain}
 use Rattle.serna_main.proofs.Replies.{bytes_of}
 
 abbrev is_end : ℕ → Bool
@@ -62,31 +63,16 @@ not_script line h = elim (cases_Bool (is_script line)) [
   | inr other ↦ other
 ]
 
-first_byte : (x y : ℕ) (xs ys : List ℕ) → x ∷ xs ≡ y ∷ ys → x ≡ y
-first_byte x y xs ys e = cc
-
-no_head : (c : ℕ) (rest : List ℕ) → (c ≡ 33 → ⊥) → is_script (c ∷ rest) ≡ false
-no_head c rest h = not_script (c ∷ rest) (λ e. h (first_byte c 33 rest _ e))
-
 -- no line of a document is the script's head
-place_behind : (d : Written) (rest : List (List ℕ)) → position_or_len is_script (written_lines d ++ rest) ≡ length (written_lines d) + position_or_len is_script rest
-place_behind written.end rest = sym (zero-add (position_or_len is_script rest))
-place_behind (written.text t others) rest =
-    ap (λ b. if not b then 1 + position_or_len is_script (written_lines others ++ rest) else 0) (no_head 45 t (λ e. absurd (omega arith)))
-    ∙ (let h = place_behind others rest in omega arith)
-place_behind (written.element name content others) rest =
-    let h = place_behind content (((41 ∷ name) ∷ written_lines others) ++ rest) in
-    let i = place_behind others rest in
-    let finish : position_or_len is_script (((41 ∷ name) ∷ written_lines others) ++ rest) ≡ 1 + position_or_len is_script (written_lines others ++ rest) =
-    ap (λ b. if not b then 1 + position_or_len is_script (written_lines others ++ rest) else 0) (no_head 41 name (λ e. absurd (omega arith))) in
-    let moved : position_or_len is_script ((written_lines content ++ ((41 ∷ name) ∷ written_lines others)) ++ rest) ≡ position_or_len is_script (written_lines content ++ (((41 ∷ name) ∷ written_lines others) ++ rest)) =
-    ap (position_or_len is_script) (append_assoc (written_lines content) ((41 ∷ name) ∷ written_lines others) rest) in
-    ap (λ b. if not b then 1 + position_or_len is_script ((written_lines content ++ ((41 ∷ name) ∷ written_lines others)) ++ rest) else 0) (no_head 40 name (λ e. absurd (omega arith)))
-    ∙ omega (arith, h, i, finish, moved, length-append (written_lines content) ((41 ∷ name) ∷ written_lines others))
+place_behind : (xs rest : List (List ℕ)) → AreNoHeads xs → position_or_len is_script (xs ++ rest) ≡ length xs + position_or_len is_script rest
+place_behind [] rest none = sym (zero-add (position_or_len is_script rest))
+place_behind (x ∷ xs) rest none =
+    ap (λ b. if not b then 1 + position_or_len is_script (xs ++ rest) else 0) (not_script x (λ e. not_head x none.0 (sym e)))
+    ∙ (let h = place_behind xs rest none.1 in omega arith)
 
 -- the script's head stands behind the document's lines
 pub place_of_script : (d : Written) (script : List (List ℕ)) → position_or_len is_script (document_head ∷ (written_lines d ++ (script_head ∷ script))) ≡ 1 + length (written_lines d)
-place_of_script d script = ap (λ n. 1 + n) (place_behind d (script_head ∷ script)) ∙ omega arith
+place_of_script d script = ap (λ n. 1 + n) (place_behind (written_lines d) (script_head ∷ script) (written_no_heads d)) ∙ omega arith
 
 -- the place of the first, or the length
 place_le : {A : Type 0} (p : A → Bool) (xs : List A) → position_or_len p xs ≤ length xs
@@ -125,16 +111,16 @@ no_script bytes lines is e d s input =
     cc
 
 pub no_document : (bytes : List ℕ) (lines : List Line) (k : ℕ) → bytes_of lines ≡ lines_of bytes → k ≡ position_or_len is_script (bytes_of lines) →
-    ((d : Written) → IsDocument d → bytes_of (take k lines) ≡ document_head ∷ written_lines d → ⊥) → (d : Written) (s : List (List ℕ)) → IsInput bytes d s → ⊥
+    ((d : Written) → IsDocument d → ArePlain (written_lines d) → bytes_of (take k lines) ≡ document_head ∷ written_lines d → ⊥) → (d : Written) (s : List (List ℕ)) → IsInput bytes d s → ⊥
 no_document bytes lines k is place none d s input =
     let whole : bytes_of lines ≡ document_head ∷ (written_lines d ++ (script_head ∷ s)) = is ∙ input.lines in
     let here : k ≡ length (document_head ∷ written_lines d) = place ∙ ap (position_or_len is_script) whole ∙ place_of_script d s ∙ omega arith in
-    none d input.built (sym (take-map (λ (line : Line). line.bytes) k lines) ∙ ap (take k) whole ∙ take_at (document_head ∷ written_lines d) (script_head ∷ s) k (sym here))
+    none d input.built input.plain (sym (take-map (λ (line : Line). line.bytes) k lines) ∙ ap (take k) whole ∙ take_at (document_head ∷ written_lines d) (script_head ∷ s) k (sym here))
 
 -- a document before the script's head: that is the input
 pub is_input : (bytes : List ℕ) (lines : List Line) (k : ℕ) (d : Written) → bytes_of lines ≡ lines_of bytes → k ≡ position_or_len is_script (bytes_of lines) → k < length lines → length bytes ≤ 16384 →
-    IsDocument d → bytes_of (take k lines) ≡ document_head ∷ written_lines d → IsInput bytes d (bytes_of (drop (k + 1) lines))
-is_input bytes lines k d is place within short built spelled =
+    IsDocument d → ArePlain (written_lines d) → bytes_of (take k lines) ≡ document_head ∷ written_lines d → IsInput bytes d (bytes_of (drop (k + 1) lines))
+is_input bytes lines k d is place within short built plain spelled =
     let all : List (List ℕ) = bytes_of lines in
     let n : ℕ = position_or_len is_script all in
     let less : n < length all = omega (arith, place, within, length-map lines (λ (line : Line). line.bytes)) in
@@ -146,6 +132,7 @@ is_input bytes lines k d is place within short built spelled =
       lines = sym is ∙ parts ∙ ap (λ xs. xs ++ (get_or all n [] ∷ drop (n + 1) all)) front ∙ ap (λ x. (document_head ∷ written_lines d) ++ (x ∷ drop (n + 1) all)) head
           ∙ ap (λ xs. (document_head ∷ written_lines d) ++ (script_head ∷ xs)) rest;
       built = built;
+      plain = plain;
       short = short;
     }
 
@@ -156,3 +143,15 @@ next_line so_far rest len number line all some is-len is-line inv =
     append_assoc so_far (line ∷ []) (numbered_lines (number + 1) (lines_of (drop (len + 1) rest)))
     ∙ ap (λ l. so_far ++ (l ∷ numbered_lines (number + 1) (lines_of (drop (len + 1) rest)))) is-line
     ∙ ap (λ ls. so_far ++ numbered_lines number ls) (sym (lines_of-rest rest len some is-len)) ∙ inv
+
+-- lines that are plain by the test
+pub plain_lines : (lines : List Line) → list_all (λ (line : Line). is_plain line.bytes) lines ≡ true → ArePlain (bytes_of lines)
+plain_lines [] e = tt
+plain_lines (x ∷ xs) e =
+    let parts = and_parts (is_plain x.bytes) (list_all (λ (line : Line). is_plain line.bytes) xs) e in
+    (parts.0, plain_lines xs parts.1)
+
+-- lines that are not
+pub not_plain : (lines : List Line) → list_all (λ (line : Line). is_plain line.bytes) lines ≡ false → ArePlain (bytes_of lines) → ⊥
+not_plain [] e plain = true≢false e
+not_plain (x ∷ xs) e plain = not_plain xs (sym (ap (λ b. b && list_all (λ (line : Line). is_plain line.bytes) xs) plain.0) ∙ e) plain.1

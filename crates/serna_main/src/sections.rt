@@ -1,11 +1,12 @@
 ghost use Rattle.std.specs.Prelude.{◌≡◌, ◌+◌, ◌<◌, ◌≤◌, Some, None, IfOk, IfSome, IfNone, length, drop, map, position, bytes_eq, ◌==◌};
-ghost use Rattle.std.specs.List.{position_or_len};
-ghost use Rattle.plain_editor.specs.Input.{lines_of, script_head};
+ghost use Rattle.std.specs.List.{position_or_len, list_all};
+ghost use Rattle.plain_editor.specs.Input.{lines_of, script_head, is_plain};
 ghost use Rattle.serna_main.specs.Lines.{numbered_lines};
 ghost use Rattle.serna_main.specs.Out.{IsRefused};
 ghost use Rattle.serna_main.specs.Sections.{Begins, IsNoDocument, IsJudged};
 
 use crate::read::MOST;
+use live_editor::is_plain;
 use serna_kinds::{Items, NameTable, NoMemory};
 use source_tree::SourceTree;
 use std::alloc::{AllocError, Global};
@@ -107,8 +108,8 @@ fn is_head(line: &Line, head: &[u8]) -> bool
     line.bytes.as_slice() == head
 }
 
-/// The table of names and the source that a document section begins: its head, and the lines of a document. None where it
-/// is none.
+/// The table of names and the source that a document section begins: its head, and the lines of a document in printable
+/// ASCII. None where it is none.
 fn document_of(alloc: Global, lines: &[Line]) -> Result<Option<(NameTable, SourceTree)>, NoMemory>
     ensures begun { IfOk result (λ found. IfSome found (λ begun. Begins (map (λ line. line.bytes) lines.now) begun.0 begun.1)) }
     ensures none { IfOk result (λ found. IfNone found (IsNoDocument (map (λ line. line.bytes) lines.now))) }
@@ -119,13 +120,22 @@ fn document_of(alloc: Global, lines: &[Line]) -> Result<Option<(NameTable, Sourc
     if !is_head(head, DOCUMENT_HEAD) {
         return Ok(None);
     }
+    if !are_plain(rest) {
+        return Ok(None);
+    }
     let mut names = NameTable::new(alloc);
     match read_tree(alloc, rest, &mut names) {
         Ok(tree) => {
             let source = SourceTree::begin(alloc, &tree)?;
             Ok(Some((names, source)))
         }
-        Err(LineFault::NotBuilt) => Ok(None),
+        Err(LineFault::Refused(_, _)) => Ok(None),
         Err(LineFault::NoMemory) => Err(AllocError),
     }
+}
+
+fn are_plain(lines: &[Line]) -> bool
+    ensures { result ≡ list_all (λ line. is_plain line.bytes) lines.now }
+{
+    lines.iter().all(|line| is_plain(line.bytes.as_slice()))
 }

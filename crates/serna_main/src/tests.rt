@@ -28,7 +28,7 @@ fn run(
     let reads = Items::from_slice(alloc, failing_reads)?;
     let writes = Items::from_slice(alloc, failing_writes)?;
     let mut source = MemorySource::new(bytes, reads, most);
-    let mut sink = MemorySink::new(alloc, writes, 64)?;
+    let mut sink = MemorySink::new(alloc, writes, 256)?;
     let status = serna_alone(alloc, words, &mut source, &mut sink);
     let held = Vec::from_slice(alloc, sink.held())?;
     Ok(Ran { status, held })
@@ -62,6 +62,36 @@ const TOLD: &[u8] = b"plain \nok\nok\ncaret 2 1 stale\n(doc\n-a\n)doc\n";
 const CUT: &[u8] = b"!document\n(doc\n";
 
 const REFUSED: &[u8] = b"input refused 1 NotBuilt\n";
+
+// Inputs of documents in full, and what is written: attributes, comments, prefixes and escapes; what a document declares
+// stands directly behind its outermost element's beginning in the lines that `source` writes, and a tab and LF are printed
+// as a space. The last three are refused: an undeclared prefix, a character past ASCII, and a wrong escape.
+const DOCUMENTS: [(&[u8], &[u8]); 6] = [
+    (
+        b"!document\nCnote\n(p:doc\nAid a\\n1\nAxmlns:p urn:p\n-Oak\n(b\n)b\n)p:doc\n!script\nshow\nsource\nat 1 1 3\ntype \\t\\\\\nwhere\nshow\n",
+        b"plain Oak\nCnote\n(p:doc\nAxmlns:p urn:p\nAid a\\n1\n-Oak\n(b\n)b\n)p:doc\nok\nok\ncaret 3 5 stale\nplain Oak \\\n",
+    ),
+    (
+        b"!document\n(a\n-x\\ty\n-\\\\\nCc\\n\n)a\n!script\nshow\nsource\n",
+        b"plain x y\\\n(a\n-x\\ty\\\\\nCc\\n\n)a\n",
+    ),
+    (
+        b"!document\n(a\nAxmlns u\n)a\n!script\ntype \\q\nshow\nat 1 1 0\ntype \\n\nsource\n",
+        b"refused not-built\nplain \nok\nok\n(a\nAxmlns u\n-\\n\n)a\n",
+    ),
+    (b"!document\n(p:a\n)p:a\n!script\n", REFUSED),
+    (b"!document\n(a\n-\xc3\xa9\n)a\n!script\n", REFUSED),
+    (b"!document\n(a\n-\\q\n)a\n!script\n", REFUSED),
+];
+
+#[test]
+fn documents_in_full(rt: HostRuntime) -> Result<(), Fail> {
+    for (input, want) in DOCUMENTS {
+        let ran = run(rt.alloc(), &[], input, 64, &[], &[])?;
+        assert_eq!(rt; ran.held.as_slice(), want);
+    }
+    Ok(())
+}
 
 #[test]
 fn answers(rt: HostRuntime) -> Result<(), Fail> {

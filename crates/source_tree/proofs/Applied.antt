@@ -9,7 +9,7 @@ use Rattle.std.specs.Option.{option_map, option_and_then}
 use Rattle.serna_kinds.specs.declared.cells.NameId.{NameId}
 use Rattle.serna_kinds.specs.declared.cells.NodeName.{NodeName}
 use Rattle.serna_kinds.specs.declared.cells.AttrPair.{AttrPair}
-use Rattle.serna_kinds.specs.Names.{NameParts}
+use Rattle.serna_kinds.specs.Names.{NameParts, Space}
 use Rattle.serna_kinds.specs.Texts.{IsPlaceIn, inserted}
 use Rattle.serna_kinds.proofs.TextLemmas.{inserted-at}
 use Rattle.source_model.specs.Source.{Body, Root, Element, Text, Comment, Forest, none, node, Source, numbers}
@@ -21,7 +21,7 @@ use Rattle.source_tree.specs.declared.node.NodeBody.{NodeBody}
 use Rattle.source_tree.specs.declared.node.NodeBody.TheVariants as stored
 use Rattle.source_tree.specs.declared.prim.SubItem.{SubItem}
 use Rattle.source_tree.specs.declared.prim.SubItem.TheVariants as item
-use Rattle.source_tree.specs.Arena.{source_of, stored_body, node_for, AreStored, AreLeaves, IsArena, leaf}
+use Rattle.source_tree.specs.Arena.{source_of, with_spaces, stored_body, node_for, AreStored, AreLeaves, IsArena, leaf}
 use Rattle.source_tree.specs.Changing.{HasTextAt, TextInserted, HasKidsAt, LeafAdded, IsInserted, IsLeaf, IsBodyOf}
 use Rattle.source_tree.specs.Prims.{IsElement, HasPlace, HasRoom, IsNewLeaf, subtree, with_tree, with_nodes}
 use Rattle.source_tree.proofs.Numbering.{slice_get_at}
@@ -404,14 +404,30 @@ leaf_step old new parent place body b up name attributes kids arena e is-body le
           (AreNodes-plug names a f g (λ bad. cc) (λ h. h) (λ h. (h.0, h.1, kids_are, h.3)) (subst (AreNodes names) tops p.nodes));
     }
 
+-- whether a source is proper has nothing to do with what it declares
+proper_with_spaces : (names : List NameParts) (spaces : List Space) (source : Source) → IsProper names source → IsProper names (with_spaces spaces source)
+proper_with_spaces names spaces source p = record {
+  top = p.top;
+  rooted = p.rooted;
+  outermost = p.outermost;
+  nodes = p.nodes;
+  distinct = p.distinct;
+  numbered = p.numbered;
+  few = p.few;
+  shallow = p.shallow;
+}
+
+proper_without_spaces : (names : List NameParts) (spaces : List Space) (source : Source) → IsProper names (with_spaces spaces source) → IsProper names source
+proper_without_spaces names spaces source p = proper_with_spaces names source.spaces (with_spaces spaces source) p
+
 -- where a prim may be applied, its place is in the arena
-pub text_there : (old : List Node) (source : Source) (n place more : ℕ) → IsArena old → source_of old ≡ source → HasRoom source n place more → HasTextAt old n place
-text_there old source n place more arena is room =
+pub text_there : (old : List Node) (spaces : List Space) (source : Source) (n place more : ℕ) → IsArena old → with_spaces spaces (source_of old) ≡ source → HasRoom source n place more → HasTextAt old n place
+text_there old spaces source n place more arena is room =
     let at = spot_text (source_of old) n room.0 (ap (λ s. text_at s n) is ∙ room.1) in
     record { own = node_for at.0 (Text room.0) at.1; there = arena_spot old arena n (record { up = at.0; body = Text room.0; kids = at.1 }) at.2; between = room.2 }
 
-pub kids_there : (old : List Node) (source : Source) (n place : ℕ) → IsArena old → source_of old ≡ source → HasPlace source n place → HasKidsAt old n place
-kids_there old source n place arena is has =
+pub kids_there : (old : List Node) (spaces : List Space) (source : Source) (n place : ℕ) → IsArena old → with_spaces spaces (source_of old) ≡ source → HasPlace source n place → HasKidsAt old n place
+kids_there old spaces source n place arena is has =
     let spot : Spot = has.0 in
     let there : slice_get old n ≡ Some (node_for spot.up spot.body spot.kids) = arena_spot old arena n spot (ap (λ s. spot_of s n) is ∙ has.1) in
     let reach = has.3 in
@@ -446,28 +462,30 @@ place_within text place p =
     omega (arith, old, one, two, at)
 
 -- characters were put into a text
-pub record TextDone (new : List Node) (source : Source) (n place : ℕ) (piece : List ℕ) : Type 0 where
+pub record TextDone (new : List Node) (spaces : List Space) (source : Source) (n place : ℕ) (piece : List ℕ) : Type 0 where
   pub arena : IsArena new
-  pub applied : source_of new ≡ with_tree source (with_text n (inserted place piece) source.tree)
-  pub proper : (names : List NameParts) → IsProper names source → IsProper names (source_of new)
+  pub applied : with_spaces spaces (source_of new) ≡ with_tree source (with_text n (inserted place piece) source.tree)
+  pub proper : (names : List NameParts) → IsProper names source → IsProper names (with_spaces spaces (source_of new))
 
-text_done_at : (old new : List Node) (n place : ℕ) (piece : List ℕ) → IsArena old → HasRoom (source_of old) n place (length (encode_utf8_all piece)) → TextInserted old n place piece new →
-    TextDone new (source_of old) n place piece
-text_done_at old new n place piece arena room t =
+text_done_at : (old new : List Node) (spaces : List Space) (n place : ℕ) (piece : List ℕ) → IsArena old → HasRoom (source_of old) n place (length (encode_utf8_all piece)) → TextInserted old n place piece new →
+    TextDone new spaces (with_spaces spaces (source_of old)) n place piece
+text_done_at old new spaces n place piece arena room t =
     let s : TextStep old new n place piece room.0 = text_step old new n place piece room.0 arena room.1 t in
     let between = room.2 in
     let long = room.3 in
     record {
       arena = s.arena;
-      applied = s.source;
-      proper = λ names. s.proper names (still_some room.0 piece place between) (λ _. still_short room.0 piece place between long);
+      applied = ap (with_spaces spaces) s.source;
+      proper = λ names p.
+          proper_with_spaces names spaces (source_of new)
+          (s.proper names (still_some room.0 piece place between) (λ _. still_short room.0 piece place between long) (proper_without_spaces names spaces (source_of old) p));
     }
 
-pub text_done : (old new : List Node) (source : Source) (n place : ℕ) (piece : List ℕ) → IsArena old → source_of old ≡ source → HasRoom source n place (length (encode_utf8_all piece)) →
-    TextInserted old n place piece new → TextDone new source n place piece
-text_done old new source n place piece arena is room t =
-    subst (λ s. TextDone new s n place piece) is
-    (text_done_at old new n place piece arena (subst (λ s. HasRoom s n place (length (encode_utf8_all piece))) (sym is) room) t)
+pub text_done : (old new : List Node) (spaces : List Space) (source : Source) (n place : ℕ) (piece : List ℕ) → IsArena old → with_spaces spaces (source_of old) ≡ source →
+    HasRoom source n place (length (encode_utf8_all piece)) → TextInserted old n place piece new → TextDone new spaces source n place piece
+text_done old new spaces source n place piece arena is room t =
+    subst (λ s. TextDone new spaces s n place piece) is
+    (text_done_at old new spaces n place piece arena (subst (λ s. HasRoom s n place (length (encode_utf8_all piece))) (sym is) room) t)
 
 -- the items of a new leaf
 pub new_leaf_some : (made : ℕ) (items : List SubItem) → IsNewLeaf made items → 0 < length items
@@ -512,16 +530,16 @@ element_of (Text text) is = absurd is
 element_of (Comment text) is = absurd is
 
 -- a leaf was added
-pub record LeafDone (new : List Node) (source : Source) (parent place : ℕ) (items : List SubItem) : Type 0 where
+pub record LeafDone (new : List Node) (spaces : List Space) (source : Source) (parent place : ℕ) (items : List SubItem) : Type 0 where
   pub arena : IsArena new
-  pub applied : source_of new ≡ with_nodes source parent place (subtree items)
+  pub applied : with_spaces spaces (source_of new) ≡ with_nodes source parent place (subtree items)
   pub proper : (names : List NameParts) → IsProper names source →
-      ((spot : Spot) → spot_of source parent ≡ Some spot → AreNodes names (inserted_at place (subtree items) spot.kids)) → IsProper names (source_of new)
+      ((spot : Spot) → spot_of source parent ≡ Some spot → AreNodes names (inserted_at place (subtree items) spot.kids)) → IsProper names (with_spaces spaces (source_of new))
 
-leaf_done_at : (old new : List Node) (parent : NodeName) (place : ℕ) (items : List SubItem) (x : SubItem) (body : NodeBody) → IsArena old → HasPlace (source_of old) parent.0 place →
+leaf_done_at : (old new : List Node) (spaces : List Space) (parent : NodeName) (place : ℕ) (items : List SubItem) (x : SubItem) (body : NodeBody) → IsArena old → HasPlace (source_of old) parent.0 place →
     IsNewLeaf (source_of old).made items → (source_of old).made < 1000000 → x ≡ get_or items 0 x → IsBodyOf x body → LeafAdded old parent place body new →
-    LeafDone new (source_of old) parent.0 place items
-leaf_done_at old new parent place items x body arena has fresh room is-x is-body t =
+    LeafDone new spaces (with_spaces spaces (source_of old)) parent.0 place items
+leaf_done_at old new spaces parent place items x body arena has fresh room is-x is-body t =
     let spot : Spot = has.0 in
     let kind = element_of spot.body has.2 in
     let at : spot_of (source_of old) parent.0 ≡ Some (record { up = spot.up; body = Element kind.0 kind.1; kids = spot.kids }) =
@@ -535,15 +553,18 @@ leaf_done_at old new parent place items x body arena has fresh room is-x is-body
     leaf_step old new parent place body l.own spot.up kind.0 kind.1 spot.kids arena at l.is l.bare room t in
     record {
       arena = s.arena;
-      applied = s.source ∙ ap (with_nodes (source_of old) parent.0 place) one;
-      proper = λ names p kids_are. s.proper names (subst (λ more. AreNodes names (inserted_at place more spot.kids)) (sym one) (kids_are spot has.1)) p;
+      applied = ap (with_spaces spaces) (s.source ∙ ap (with_nodes (source_of old) parent.0 place) one);
+      proper = λ names p kids_are.
+          proper_with_spaces names spaces (source_of new)
+          (s.proper names (subst (λ more. AreNodes names (inserted_at place more spot.kids)) (sym one) (kids_are spot has.1)) (proper_without_spaces names spaces (source_of old) p));
     }
 
-pub leaf_done : (old new : List Node) (source : Source) (parent : NodeName) (place : ℕ) (items : List SubItem) (x : SubItem) (body : NodeBody) → IsArena old → source_of old ≡ source → HasPlace source parent.0 place →
-    IsNewLeaf source.made items → source.made < 1000000 → x ≡ get_or items 0 x → IsBodyOf x body → LeafAdded old parent place body new → LeafDone new source parent.0 place items
-leaf_done old new source parent place items x body arena is has fresh room is-x is-body t =
-    subst (λ s. LeafDone new s parent.0 place items) is
-    (leaf_done_at old new parent place items x body arena (subst (λ s. HasPlace s parent.0 place) (sym is) has) (subst (λ (s : Source). IsNewLeaf s.made items) (sym is) fresh)
+pub leaf_done : (old new : List Node) (spaces : List Space) (source : Source) (parent : NodeName) (place : ℕ) (items : List SubItem) (x : SubItem) (body : NodeBody) → IsArena old →
+    with_spaces spaces (source_of old) ≡ source → HasPlace source parent.0 place → IsNewLeaf source.made items → source.made < 1000000 → x ≡ get_or items 0 x → IsBodyOf x body →
+    LeafAdded old parent place body new → LeafDone new spaces source parent.0 place items
+leaf_done old new spaces source parent place items x body arena is has fresh room is-x is-body t =
+    subst (λ s. LeafDone new spaces s parent.0 place items) is
+    (leaf_done_at old new spaces parent place items x body arena (subst (λ s. HasPlace s parent.0 place) (sym is) has) (subst (λ (s : Source). IsNewLeaf s.made items) (sym is) fresh)
     (subst (λ (s : Source). s.made < 1000000) (sym is) room) is-x is-body t)
 
 -- the two ways that a call may have ended

@@ -4,20 +4,21 @@ use Rattle.std.proofs.lemmas.Bool.{cases_lt}
 use Rattle.std.proofs.lemmas.List.{append-nil, length_push}
 use Rattle.std.specs.List.{AllByRecursion}
 use Rattle.serna_kinds.specs.declared.cells.NodeName.{NodeName}
-use Rattle.serna_kinds.specs.Names.{NameParts}
+use Rattle.serna_kinds.specs.declared.cells.AttrPair.{AttrPair}
+use Rattle.serna_kinds.specs.Names.{NameParts, Space}
 use Rattle.tree_lines.specs.declared.tree.TreeItem.{TreeItem}
 use Rattle.tree_lines.specs.declared.tree.TreeItem.TheVariants as item
 use Rattle.tree_lines.specs.Given.{Given, count_of, items_of, IsWhole, AreTexts}
 use Rattle.tree_lines.specs.Given as given
-use Rattle.tree_lines.specs.Tokens.{without_line, IsNamed}
+use Rattle.tree_lines.specs.Tokens.{without_line, AreApart, IsNamed}
 use Rattle.source_model.specs.Source.{Body, Forest, Source, numbers}
 use Rattle.source_model.specs.Source as source
 use Rattle.source_model.specs.Cells.{named}
-use Rattle.source_model.specs.Proper.{uses, depth_of, AreAttributes, AreNodes, BeginsNoText, IsTop, IsProper}
+use Rattle.source_model.specs.Proper.{uses, depth_of, AreAttributes, AreNodes, AreComments, BeginsNoText, IsTop, IsProper}
 use Rattle.source_tree.specs.Begun.{numbered, begun}
 use Rattle.source_tree.specs.declared.node.Node.{Node}
 use Rattle.source_tree.specs.declared.node.NodeBody.TheVariants as stored
-use Rattle.source_tree.specs.Arena.{source_of, IsArena, AreStored, AreLeaves, heads, nodes_of, arena_of, leaf}
+use Rattle.source_tree.specs.Arena.{source_of, with_spaces, IsArena, AreStored, AreLeaves, heads, nodes_of, arena_of, leaf}
 use Rattle.source_tree.specs.Growing.{EndsHere, IsPlanted, PlantsAll}
 use Rattle.source_tree.proofs.Planting.{length-nodes_of}
 use Rattle.source_tree.proofs.Around.{count_same, count_other}
@@ -104,14 +105,14 @@ depth_of-numbered k (given.element name attributes content rest) =
     ap (λ n. max (1 + n) (depth_of (numbered (k + 1 + count_of content) rest))) (depth_of-numbered (k + 1) content)
     ∙ ap (max (1 + given.depth_of content)) (depth_of-numbered (k + 1 + count_of content) rest)
 
-pub source_of-arena_of : (g : Given) → given.depth_of g ≤ 120 → source_of (arena_of g) ≡ begun g
+pub source_of-arena_of : (spaces : List Space) (g : Given) → given.depth_of g ≤ 120 → with_spaces spaces (source_of (arena_of g)) ≡ begun spaces g
 unfolding source_of begun
-source_of-arena_of g d =
+source_of-arena_of spaces g d =
     let made : length (arena_of g) - 1 ≡ count_of g = omega (arith, length-nodes_of 1 (named 0) g) in
     let depth = depth_of-numbered 1 g in
-    ap (λ t. record { tree = t; made = length (arena_of g) - 1; spaces = [] })
+    ap (λ t. record { tree = t; made = length (arena_of g) - 1; spaces = spaces })
     (reads_tree (arena_of g) (numbered 1 g) (AreStored-arena_of g) (AreLeaves-numbered 1 g) (omega (arith, depth, d)))
-    ∙ ap (λ m. record { tree = source.node 0 source.Root (numbered 1 g) source.none; made = m; spaces = [] }) made
+    ∙ ap (λ m. record { tree = source.node 0 source.Root (numbered 1 g) source.none; made = m; spaces = spaces }) made
 
 used_once : (n : ℕ) (g : Given) → uses n (source.node 0 source.Root (numbered 1 g) source.none) ≤ 1
 used_once zero g =
@@ -174,17 +175,34 @@ BeginsNoText-numbered k (given.text t rest) is = is
 BeginsNoText-numbered k (given.comment t rest) is = tt
 BeginsNoText-numbered k (given.element name attributes content rest) is = tt
 
+-- values that are short, under names that are apart
+AreAttributes-apart : (names : List NameParts) (pairs : List AttrPair) → AllByRecursion (λ (pair : AttrPair). given.IsShort pair.value) pairs → AreApart names pairs → AreAttributes names pairs
+AreAttributes-apart names [] short apart = tt
+AreAttributes-apart names (pair ∷ pairs) short apart = (apart.1, short.0, AreAttributes-apart names pairs short.1 apart.2)
+
 AreNodes-numbered : (names : List NameParts) (k : ℕ) (g : Given) → AreTexts g → AreNamed names g → AreNodes names (numbered k g)
 AreNodes-numbered names k given.end texts all = tt
 AreNodes-numbered names k (given.text t rest) texts all =
     (texts.0, texts.1, refl, BeginsNoText-numbered (k + 1) rest texts.2, AreNodes-numbered names (k + 1) rest texts.3 all.1)
 AreNodes-numbered names k (given.comment t rest) texts all = (refl, AreNodes-numbered names (k + 1) rest texts all.1)
 AreNodes-numbered names k (given.element name attributes content rest) texts all = (
-  all.0,
-  subst (AreAttributes names) (sym texts.0) tt,
+  all.0.0,
+  AreAttributes-apart names attributes texts.0 all.0.1,
   AreNodes-numbered names (k + 1) content texts.1 (named_left names (items_of content) (item.Finish ∷ items_of rest) all.1),
   AreNodes-numbered names (k + 1 + count_of content) rest texts.2 (named_right names (items_of content) (item.Finish ∷ items_of rest) all.1).1,
 )
+
+AreComments-numbered : (k : ℕ) (g : Given) → given.AreComments g → AreComments (numbered k g)
+AreComments-numbered k given.end are = tt
+AreComments-numbered k (given.text t rest) are = are
+AreComments-numbered k (given.comment t rest) are = AreComments-numbered (k + 1) rest are
+AreComments-numbered k (given.element name attributes content rest) are = are
+
+IsTop-numbered : (k : ℕ) (g : Given) → given.IsTop g → IsTop (numbered k g)
+IsTop-numbered k given.end is = is
+IsTop-numbered k (given.text t rest) is = is
+IsTop-numbered k (given.comment t rest) is = IsTop-numbered (k + 1) rest is
+IsTop-numbered k (given.element name attributes content rest) is = AreComments-numbered (k + 1 + count_of content) rest is
 
 used_within : (n : ℕ) (g : Given) → 0 < uses n (source.node 0 source.Root (numbered 1 g) source.none) → n ≤ count_of g
 used_within n g used = elim (cases_lt (count_of g) n) [
@@ -195,12 +213,12 @@ used_within n g used = elim (cases_lt (count_of g) n) [
   | inr within ↦ within
 ]
 
-pub IsProper-begun : (names : List NameParts) (g : Given) → IsWhole g → AreNamed names g → IsProper names (begun g)
+pub IsProper-begun : (names : List NameParts) (spaces : List Space) (g : Given) → IsWhole g → AreNamed names g → IsProper names (begun spaces g)
 unfolding begun
-IsProper-begun names g w all = record {
+IsProper-begun names spaces g w all = record {
   top = numbered 1 g;
   rooted = refl;
-  outermost = subst (λ h. IsTop (numbered 1 h)) (sym w.outermost) tt;
+  outermost = IsTop-numbered 1 g w.top;
   nodes = AreNodes-numbered names 1 g w.texts all;
   distinct = λ n. used_once n g;
   numbered = λ n used. used_within n g used;

@@ -1,16 +1,18 @@
 -- The canonical text is written along the nodes of an arena.
-use Rattle.std.proofs.Common.{◌≡◌, ℕ, ◌+◌, ◌≤◌, List, [], ◌∷◌, ◌++◌, map, drop, length, Option, refl, sym, ap, ◌∙◌, subst, arith, append-nil}
+use Rattle.std.proofs.Common.{◌≡◌, ℕ, ◌+◌, ◌≤◌, Bool, false, true, List, [], ◌∷◌, ◌++◌, map, drop, length, Option, refl, sym, ap, ◌∙◌, subst, arith, append-nil, append_assoc}
 use Rattle.std.proofs.lemmas.List.{drop_all}
+use Rattle.std.proofs.lemmas.Grind.{flat_map-append}
 use Rattle.serna_kinds.specs.declared.cells.NodeName.{NodeName}
-use Rattle.serna_kinds.specs.Names.{NameParts}
+use Rattle.serna_kinds.specs.Names.{NameParts, Space}
 use Rattle.tree_lines.specs.Given.{Given, count_of}
 use Rattle.tree_lines.specs.Given as given
+use Rattle.tree_lines.specs.Canonical.{line_text, text_of_lines}
 use Rattle.source_model.specs.Source.{Body, Root, Element, Text, Comment, Forest, none, node, numbers}
 use Rattle.source_model.specs.Cells.{named}
 use Rattle.source_tree.specs.declared.node.Node.{Node}
 use Rattle.source_tree.specs.Begun.{begun, numbered}
 use Rattle.source_tree.specs.Unnumbered.{unnumbered, document_of}
-use Rattle.source_tree.specs.Lines.{forest_text, AreWithin, WritesNode, StillToWrite}
+use Rattle.source_tree.specs.Lines.{forest_text, document_text, AreWithin, Writes, WritesNode, WritesFirst, StillToWrite, StillAtTop}
 
 -- a tree that is numbered and loses its numbers is as before
 unnumbered-numbered : (k : ℕ) (g : Given) → unnumbered (numbered k g) ≡ g
@@ -21,9 +23,16 @@ unnumbered-numbered k (given.element name attributes content rest) =
     ap (λ g. given.element name attributes g (unnumbered (numbered (k + 1 + count_of content) rest))) (unnumbered-numbered (k + 1) content)
     ∙ ap (given.element name attributes content) (unnumbered-numbered (k + 1 + count_of content) rest)
 
-pub document_begun : (g : Given) → document_of (begun g) ≡ g
+pub document_begun : (spaces : List Space) (g : Given) → document_of (begun spaces g) ≡ g
 unfolding begun
-document_begun g = unnumbered-numbered 1 g
+document_begun spaces g = unnumbered-numbered 1 g
+
+-- an element's beginning is written, and then what stands behind it
+pub begun_then : (beginning content : List (List ℕ)) (old now new rest : List ℕ) → now ≡ old ++ text_of_lines beginning → new ++ rest ≡ now ++ text_of_lines content →
+    new ++ rest ≡ old ++ text_of_lines (beginning ++ content)
+begun_then beginning content old now new rest begins follows =
+    follows ∙ ap (λ t. t ++ text_of_lines content) begins ∙ append_assoc old (text_of_lines beginning) (text_of_lines content)
+    ∙ ap (λ t. old ++ t) (sym (flat_map-append line_text beginning content))
 
 -- what stands behind a node
 rest_within : (nodes : List Node) (up : Option ℕ) (left n : ℕ) (body : Body) (kids rest : Forest) → AreWithin nodes up left (node n body kids rest) → AreWithin nodes up left rest
@@ -71,3 +80,40 @@ pub all_written : (nodes : List Node) (up : Option ℕ) (left : ℕ) (kids : Lis
 all_written nodes up left kids at names old new forest past still =
     let nothing : still.rest ≡ none = none_left still.rest (sym still.next ∙ drop_all at kids past) in
     sym (append-nil new) ∙ ap (λ f. new ++ forest_text names f) (sym nothing) ∙ still.written
+
+-- at the top: one more is written, up to the first element
+then_first : (nodes : List Node) (up : Option ℕ) (kids : List NodeName) (at : ℕ) (kid : NodeName) (names : List NameParts) (spaces : List Space) (old now new : List ℕ) (declared : Bool)
+    (forest rest : Forest) → drop at kids ≡ kid ∷ drop (at + 1) kids → AreWithin nodes up 120 rest → drop at kids ≡ map named (numbers rest) →
+    now ++ document_text names spaces rest ≡ old ++ document_text names spaces forest → WritesFirst nodes kid names spaces now declared new →
+    StillAtTop nodes up kids (at + 1) names spaces old declared new forest
+then_first nodes up kids at kid names spaces old now new declared forest none one w next written writes = cc
+then_first nodes up kids at kid names spaces old now new declared forest (node n body below rest) one w next written writes =
+    let first : kid ∷ drop (at + 1) kids ≡ named n ∷ map named (numbers rest) = sym one ∙ next in
+    let same : kid ≡ named n = cc in
+    let number : kid.0 ≡ n = ap (λ (k : NodeName). k.0) same in
+    let there : AreWithin nodes up 120 (node kid.0 body below rest) = subst (λ k. AreWithin nodes up 120 (node k body below rest)) (sym number) w in
+    record {
+      rest = rest;
+      within = rest_within nodes up 120 n body below rest w;
+      next = cc;
+      written = writes up body below rest there ∙ ap (λ k. now ++ document_text names spaces (node k body below rest)) number ∙ written;
+    }
+
+pub one_more_at_top : (nodes : List Node) (up : Option ℕ) (kids : List NodeName) (at : ℕ) (kid : NodeName) (names : List NameParts) (spaces : List Space) (old now new : List ℕ)
+    (declared answer : Bool) (forest : Forest) → answer ≡ declared → drop at kids ≡ kid ∷ drop (at + 1) kids → StillAtTop nodes up kids at names spaces old false now forest →
+    WritesFirst nodes kid names spaces now answer new → StillAtTop nodes up kids (at + 1) names spaces old declared new forest
+one_more_at_top nodes up kids at kid names spaces old now new declared answer forest is one still writes =
+    subst (λ d. StillAtTop nodes up kids (at + 1) names spaces old d new forest) is
+    (then_first nodes up kids at kid names spaces old now new answer forest still.rest one still.within still.next still.written writes)
+
+-- all are written, and no element was among them
+pub all_before : (nodes : List Node) (up : Option ℕ) (kids : List NodeName) (at : ℕ) (names : List NameParts) (spaces : List Space) (old new : List ℕ) (forest : Forest) → length kids ≤ at →
+    StillAtTop nodes up kids at names spaces old false new forest → new ≡ old ++ document_text names spaces forest
+all_before nodes up kids at names spaces old new forest past still =
+    let nothing : still.rest ≡ none = none_left still.rest (sym still.next ∙ drop_all at kids past) in
+    sym (append-nil new) ∙ ap (λ f. new ++ document_text names spaces f) (sym nothing) ∙ still.written
+
+-- the first element is written, and then all behind it
+pub all_behind : (nodes : List Node) (up : Option ℕ) (kids : List NodeName) (at : ℕ) (names : List NameParts) (spaces : List Space) (old now new : List ℕ) (forest : Forest) →
+    StillAtTop nodes up kids at names spaces old true now forest → Writes nodes (drop at kids) 120 names now new → new ≡ old ++ document_text names spaces forest
+all_behind nodes up kids at names spaces old now new forest still writes = writes up still.rest still.within still.next ∙ still.written

@@ -5,6 +5,7 @@ use Rattle.serna_kinds.specs.declared.cells.NodeName.{NodeName}
 use Rattle.serna_kinds.specs.declared.cells.Cell.{Cell}
 use Rattle.serna_kinds.specs.declared.cells.Facet.{Facet}
 use Rattle.serna_kinds.specs.declared.cells.Facet.TheVariants as facet
+use Rattle.serna_kinds.specs.Names.{Space}
 use Rattle.serna_kinds.specs.Content.{Content}
 use Rattle.serna_kinds.specs.Content as content
 use Rattle.tree_lines.specs.Given.{Given, count_of}
@@ -57,6 +58,10 @@ forest_of nodes (suc left) ks = siblings nodes (forest_of nodes left) ks
 -- an outermost element has the depth 1, and elements stand 120 deep in one another: with the document node and a text there are 122 levels
 unfoldable pub source_of : List Node → Source
 source_of nodes = record { tree = forest_of nodes 122 (named 0 ∷ []); made = length nodes - 1; spaces = [] }
+
+-- the same source with these declarations
+abbrev pub with_spaces : List Space → Source → Source
+with_spaces spaces source = record { tree = source.tree; made = source.made; spaces = spaces }
 
 -- what the arena has for a node of the tree: its parent, what it is, and the numbers of its children
 abbrev pub stored_body : Body → NodeBody

@@ -1,5 +1,6 @@
 -- The source that a tree begins: the document node has the number 0, and all nodes below it have the numbers from 1 in document order.
-use Rattle.std.specs.Prelude.{ℕ, ◌+◌, []}
+use Rattle.std.specs.Prelude.{ℕ, ◌+◌, List}
+use Rattle.serna_kinds.specs.Names.{Space}
 use Rattle.tree_lines.specs.Given.{Given, count_of}
 use Rattle.tree_lines.specs.Given as given
 use Rattle.source_model.specs.Source.{Forest, Source}
@@ -13,5 +14,5 @@ numbered k (given.comment t rest) = source.node k (source.Comment t) source.none
 numbered k (given.element name attributes content rest) =
     source.node k (source.Element name attributes) (numbered (k + 1) content) (numbered (k + 1 + count_of content) rest)
 
-unfoldable pub begun : Given → Source
-begun tree = record { tree = source.node 0 source.Root (numbered 1 tree) source.none; made = count_of tree; spaces = [] }
+unfoldable pub begun : List Space → Given → Source
+begun spaces tree = record { tree = source.node 0 source.Root (numbered 1 tree) source.none; made = count_of tree; spaces = spaces }

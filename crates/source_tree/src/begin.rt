@@ -13,19 +13,19 @@ use tree_lines::{Tree, TreeItem};
 
 impl SourceTree {
     ghost use Rattle.std.specs.Prelude.{List};
-    ghost use Rattle.std.specs.List.{AllByRecursion};
     ghost use Rattle.serna_kinds.specs.Names.{NameParts};
-    ghost use Rattle.tree_lines.specs.Tokens.{IsNamed};
+    ghost use Rattle.tree_lines.specs.Tokens.{AreNamed};
     ghost use Rattle.source_model.specs.Proper.{IsProper};
     ghost use Rattle.source_tree.specs.Begun.{begun};
 
-    /// The source of a document that was read. Its nodes are numbered from 1 in document order.
+    /// The source of a document that was read, with what it declares. Its nodes are numbered from 1 in document order.
     pub fn begin(alloc: Global, tree: &Tree) -> Result<SourceTree, AllocError>
-        ensures source { IfOk result (λ s. (given : Given) → map without_line tree.now ≡ items_of given → s ≡ begun given) }
-        ensures proper { IfOk result (λ s. (names : List NameParts) → AllByRecursion (IsNamed names) tree.now → IsProper names s) }
+        ensures source { IfOk result (λ s. (given : Given) → map without_line tree.now.items ≡ items_of given → s ≡ begun tree.now.spaces given) }
+        ensures proper { IfOk result (λ s. (names : List NameParts) → AreNamed names tree.now.items → IsProper names s) }
     {
         let nodes = planted(alloc, tree.items())?;
-        Ok(SourceTree { nodes })
+        let spaces = tree.spaces().copy()?;
+        Ok(SourceTree { nodes, spaces })
     }
 }
 

@@ -1,4 +1,5 @@
-ghost use Rattle.std.specs.Prelude.{◌≡◌, ℕ, ◌≤◌};
+ghost use Rattle.std.specs.Prelude.{◌≡◌, ℕ, ◌≤◌, List};
+ghost use Rattle.serna_kinds.specs.Names.{Space};
 ghost use Rattle.source_model.specs.Source.{Source};
 ghost use Rattle.source_model.specs.Proper.{uses};
 ghost use Rattle.source_tree.specs.declared.prim.Primitive.{Primitive};
@@ -17,5 +18,5 @@ pub fn undoing_restores()
 
 /// The source that a tree begins has this tree as its document: `lines` of it writes the tree.
 pub fn a_tree_begins_its_own_document()
-    ensures { (given : Given) → document_of (begun given) ≡ given }
+    ensures { (spaces : List Space) (given : Given) → document_of (begun spaces given) ≡ given }
 {}

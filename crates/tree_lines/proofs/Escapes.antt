@@ -18,13 +18,13 @@ unescaped true (c ∷ cs) = stands_for c ∷ unescaped false cs
 unescaped false (c ∷ cs) = if c == 92 then unescaped true cs else (c ∷ unescaped false cs)
 
 -- a character is one of the three that are escaped, or else it is none of them
-data Case (c : ℕ) : Type 0 where
+pub data Case (c : ℕ) : Type 0 where
   slash : c ≡ 92 → Case c
   feed : c ≡ 10 → Case c
   tab : c ≡ 9 → Case c
   plain : eqb c 92 ≡ false → eqb c 10 ≡ false → eqb c 9 ≡ false → (c ≢ 10) → Case c
 
-case_of : (c : ℕ) → Case c
+pub case_of : (c : ℕ) → Case c
 case_of c = elim (eqb_tells c 92) [
   | inl is_slash ↦ slash is_slash.1
   | inr no_slash ↦ elim (eqb_tells c 10) [

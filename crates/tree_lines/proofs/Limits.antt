@@ -1,203 +1,278 @@
--- The limits of a section, on a document and on its items.
-use Rattle.std.proofs.Common.{◌≡◌, ◌≢◌, ℕ, ◌+◌, ◌≤◌, List, [], ◌∷◌, ◌++◌, length, map, refl, sym, ap, ◌∙◌, arith}
-use Rattle.std.specs.Prelude.{encode_utf8_all}
-use Rattle.std.specs.List.{AllByRecursion}
-use Rattle.std.specs.Str.{chars, IsAscii}
-use Rattle.std.proofs.lemmas.List.{length-append}
-use Rattle.std.proofs.lemmas.Str.{chars-IsAscii, encodes-append}
-use Rattle.serna_kinds.specs.Names.{NameParts, plain_name, id_of}
-use Rattle.tree_lines.specs.declared.tree.Line.{Line}
-use Rattle.tree_lines.specs.declared.tree.TreeItem.{TreeItem}
-use Rattle.tree_lines.specs.declared.tree.TreeItem.TheVariants as item
-use Rattle.tree_lines.specs.Written.{Written, end, text, element, written_lines, IsSpelled, height_of, with_text, joined}
-use Rattle.tree_lines.specs.Given.{Given, items_of, count_of, depth_of, BeginsNoText, AreTexts, IsWhole, IsDocument, numbered_names, given_of}
-use Rattle.tree_lines.specs.Given as given
-use Rattle.tree_lines.specs.Whole.{IsTree}
-use Rattle.tree_lines.specs.Tokens.{token_of, with_item, joined_items, without_line}
-use Rattle.tree_lines.specs.Reading.{IsBuilt, nodes_in, IsShort, AreWithin}
-use Rattle.tree_lines.proofs.Joining.{IsAscii-from_text, items_of-lines, chars-text}
+-- The tree of lines that break no rule is within the limits of a section.
+use Rattle.std.proofs.Common.{◌≡◌, ℕ, ◌+◌, ◌<◌, ◌≤◌, Bool, true, false, List, [], ◌∷◌, ◌++◌, zero, suc, map, Some, None, length, refl, sym, ap, subst, ◌∙◌, arith, length-append}
+use Rattle.std.specs.Prelude.{◌==◌, ◌&&◌, nat_lt, IsTrue, encode_utf8_all, if◌then◌else◌}
+use Rattle.std.specs.List.{AllByRecursion, flat_map}
+use Rattle.std.proofs.lemmas.Bool.{lt-ltb, and_left, and_right}
+use Rattle.std.proofs.lemmas.Str.{encodes-append, length-le-encodes}
+use Rattle.std.proofs.Math.Dec.{eqb-suc-zero}
+use Rattle.serna_kinds.specs.declared.cells.NameId.{NameId}
+use Rattle.serna_kinds.specs.declared.cells.AttrPair.{AttrPair}
+use Rattle.serna_kinds.specs.Names.{NameParts, Space, id_of}
+use Rattle.serna_kinds.specs.Qualified.{is_name, element_name}
+use Rattle.tree_lines.specs.Texts.{meant, size_of}
+use Rattle.tree_lines.specs.Tags.{Tag, tag_of, is_declaration}
+use Rattle.tree_lines.specs.Tags as tag
+use Rattle.tree_lines.specs.Before.{without_innermost, opened, open_elements, text_size, size_behind, begins_text, nodes_at, node_count}
+use Rattle.tree_lines.specs.Faults.{said_fault, line_fault, fault_behind}
+use Rattle.tree_lines.specs.Written.{Written, Attribute, attribute_bytes, written_lines}
+use Rattle.tree_lines.specs.Written as written
+use Rattle.tree_lines.specs.Documents.{AreParted, IsDocument}
+use Rattle.tree_lines.specs.Documents as documents
+use Rattle.tree_lines.specs.Given.{Given, end, text, comment, element, count_of, depth_of, IsShort, AreTexts, AreComments, IsTop, IsWhole, with_text, pair_for, pair_in, given_in, spaces_of, given_of}
+use Rattle.tree_lines.proofs.LineTags.{tag_of-attribute}
+use Rattle.tree_lines.proofs.RulesKept.{or_later-none, line_fault-none, begin-none, attribute-none, text-none, comment-none}
 
--- nodes
-pub nodes_in-append : (xs ys : List TreeItem) → nodes_in (xs ++ ys) ≡ nodes_in xs + nodes_in ys
-nodes_in-append [] ys = omega arith
-nodes_in-append (item.Begin n a l ∷ xs) ys = omega (arith, nodes_in-append xs ys)
-nodes_in-append (item.Text t ∷ xs) ys = omega (arith, nodes_in-append xs ys)
-nodes_in-append (item.Comment t ∷ xs) ys = omega (arith, nodes_in-append xs ys)
-nodes_in-append (item.Finish ∷ xs) ys = nodes_in-append xs ys
+-- further lines, the nearest first
+abbrev past : List (List ℕ) → List (List ℕ) → List (List ℕ)
+past [] before = before
+past (line ∷ lines) before = past lines (line ∷ before)
 
-nodes_in-without_line : (xs : List TreeItem) → nodes_in (map without_line xs) ≡ nodes_in xs
-nodes_in-without_line [] = refl
-nodes_in-without_line (item.Begin n a l ∷ xs) = omega (arith, nodes_in-without_line xs)
-nodes_in-without_line (item.Text t ∷ xs) = omega (arith, nodes_in-without_line xs)
-nodes_in-without_line (item.Comment t ∷ xs) = omega (arith, nodes_in-without_line xs)
-nodes_in-without_line (item.Finish ∷ xs) = nodes_in-without_line xs
+past-append : (xs ys before : List (List ℕ)) → past (xs ++ ys) before ≡ past ys (past xs before)
+past-append [] ys before = refl
+past-append (x ∷ xs) ys before = past-append xs ys (x ∷ before)
 
-nodes_in-items_of : (g : Given) → nodes_in (items_of g) ≡ count_of g
-nodes_in-items_of given.end = refl
-nodes_in-items_of (given.text t rest) = omega (arith, nodes_in-items_of rest)
-nodes_in-items_of (given.comment t rest) = omega (arith, nodes_in-items_of rest)
-nodes_in-items_of (given.element n a inside rest) = omega (arith, nodes_in-append (items_of inside) (item.Finish ∷ items_of rest), nodes_in-items_of inside, nodes_in-items_of rest)
+-- none of the lines breaks a rule
+abbrev AreFaultless : List Space → List (List ℕ) → List (List ℕ) → Type 0
+AreFaultless spaces before [] = Unit {0}
+AreFaultless spaces before (line ∷ lines) = (said_fault spaces before (tag_of line) ≡ None) × AreFaultless spaces (line ∷ before) lines
 
--- texts
-pub are_short-append : (xs ys : List TreeItem) → AllByRecursion IsShort xs → AllByRecursion IsShort ys → AllByRecursion IsShort (xs ++ ys)
-are_short-append [] ys h k = k
-are_short-append (x ∷ xs) ys h k = (h.0, are_short-append xs ys h.1 k)
+are_faultless : (spaces : List Space) (before lines : List (List ℕ)) → fault_behind spaces before lines ≡ None → AreFaultless spaces before lines
+are_faultless spaces before [] e = tt
+are_faultless spaces before (line ∷ lines) e =
+    let both = or_later-none (length before) (line_fault spaces before line) (fault_behind spaces (line ∷ before) lines) e in
+    ((line_fault-none spaces before line both.0).1, are_faultless spaces (line ∷ before) lines both.1)
 
-pub are_short-front : (xs ys : List TreeItem) → AllByRecursion IsShort (xs ++ ys) → AllByRecursion IsShort xs
-are_short-front [] ys h = tt
-are_short-front (x ∷ xs) ys h = (h.0, are_short-front xs ys h.1)
+faultless_parts : (spaces : List Space) (before xs ys : List (List ℕ)) → AreFaultless spaces before (xs ++ ys) → AreFaultless spaces before xs × AreFaultless spaces (past xs before) ys
+faultless_parts spaces before [] ys h = (tt, h)
+faultless_parts spaces before (x ∷ xs) ys h =
+    let more = faultless_parts spaces (x ∷ before) xs ys h.1 in
+    ((h.0, more.0), more.1)
 
-pub are_short-back : (xs ys : List TreeItem) → AllByRecursion IsShort (xs ++ ys) → AllByRecursion IsShort ys
-are_short-back [] ys h = h
-are_short-back (x ∷ xs) ys h = are_short-back xs ys h.1
+-- how many texts a tree begins with, and how many bytes that text has
+abbrev front_count : Given → ℕ
+front_count end = 0
+front_count (text t rest) = 1
+front_count (comment t rest) = 0
+front_count (element name attributes content rest) = 0
 
-are_short-numbered : (xs : List TreeItem) → AllByRecursion IsShort (map without_line xs) → AllByRecursion IsShort xs
-are_short-numbered [] h = tt
-are_short-numbered (item.Begin n a l ∷ xs) h = (tt, are_short-numbered xs h.1)
-are_short-numbered (item.Text t ∷ xs) h = (h.0, are_short-numbered xs h.1)
-are_short-numbered (item.Comment t ∷ xs) h = (tt, are_short-numbered xs h.1)
-are_short-numbered (item.Finish ∷ xs) h = (tt, are_short-numbered xs h.1)
+abbrev front_size : Given → ℕ
+front_size end = 0
+front_size (text t rest) = size_of t
+front_size (comment t rest) = 0
+front_size (element name attributes content rest) = 0
 
-are_short-plain : (xs : List TreeItem) → AllByRecursion IsShort xs → AllByRecursion IsShort (map without_line xs)
-are_short-plain [] h = tt
-are_short-plain (item.Begin n a l ∷ xs) h = (tt, are_short-plain xs h.1)
-are_short-plain (item.Text t ∷ xs) h = (h.0, are_short-plain xs h.1)
-are_short-plain (item.Comment t ∷ xs) h = (tt, are_short-plain xs h.1)
-are_short-plain (item.Finish ∷ xs) h = (tt, are_short-plain xs h.1)
+-- how many texts of the tree go on with a text of so many bytes
+abbrev joins : ℕ → Given → ℕ
+joins zero g = 0
+joins (suc size) g = front_count g
 
-are_short-from_texts : (g : Given) → AreTexts g → AllByRecursion IsShort (items_of g)
-are_short-from_texts given.end h = tt
-are_short-from_texts (given.text t rest) h = (h.1, are_short-from_texts rest h.3)
-are_short-from_texts (given.comment t rest) h = (tt, are_short-from_texts rest h)
-are_short-from_texts (given.element n a inside rest) h =
-    (tt, are_short-append (items_of inside) (item.Finish ∷ items_of rest) (are_short-from_texts inside h.1) (tt, are_short-from_texts rest h.2))
+joins-none : (size : ℕ) (g : Given) → front_count g ≡ 0 → joins size g ≡ 0
+joins-none zero g e = refl
+joins-none (suc size) g e = e
 
--- texts have characters, and no text as their neighbour
-IsJoined : Given → Type 0
-IsJoined given.end = Unit {0}
-IsJoined (given.text t rest) = (t ≢ []) × BeginsNoText rest × IsJoined rest
-IsJoined (given.comment t rest) = IsJoined rest
-IsJoined (given.element name attributes inside rest) = (attributes ≡ []) × IsJoined inside × IsJoined rest
+joins-some : (size : ℕ) (g : Given) → 0 < size → joins size g ≡ front_count g
+joins-some zero g h = absurd (omega arith)
+joins-some (suc size) g h = refl
 
-AreTexts-from_joined : (g : Given) → IsJoined g → AllByRecursion IsShort (items_of g) → AreTexts g
-unfolding IsJoined
-AreTexts-from_joined given.end j h = tt
-AreTexts-from_joined (given.text t rest) j h = (j.0, h.0, j.1, AreTexts-from_joined rest j.2 h.1)
-AreTexts-from_joined (given.comment t rest) j h = AreTexts-from_joined rest j h.1
-AreTexts-from_joined (given.element n a inside rest) j h =
-    let after = are_short-back (items_of inside) (item.Finish ∷ items_of rest) h.1 in
-    (j.0, AreTexts-from_joined inside j.1 (are_short-front (items_of inside) (item.Finish ∷ items_of rest) h.1), AreTexts-from_joined rest j.2 after.1)
+size_of-append : (a b : List ℕ) → size_of (a ++ b) ≡ size_of a + size_of b
+size_of-append a b = ap length (encodes-append a b) ∙ length-append (encode_utf8_all a) (encode_utf8_all b)
 
-IsJoined-with_text : (names : List NameParts) (t : List ℕ) (w : Written) → IsAscii t → IsJoined (numbered_names names w) → IsJoined (numbered_names names (with_text t w))
-unfolding IsJoined
-IsJoined-with_text names [] w a j = j
-IsJoined-with_text names (c ∷ cs) end a j = (rw (chars-IsAscii (c ∷ cs) a) (λ (e : c ∷ cs ≡ []). cc), tt, tt)
-IsJoined-with_text names (c ∷ cs) (text u w) a j = (λ (e : chars ((c ∷ cs) ++ u) ≡ []). let f : (c ∷ cs) ++ chars u ≡ [] = sym (chars-text c cs u a) ∙ e in cc, j.1, j.2)
-IsJoined-with_text names (c ∷ cs) (element n inside w) a j = (rw (chars-IsAscii (c ∷ cs) a) (λ (e : c ∷ cs ≡ []). cc), tt, j)
+size_of-some : (c : ℕ) (cs : List ℕ) → 0 < size_of (c ∷ cs)
+size_of-some c cs = let longer : suc (length cs) ≤ size_of (c ∷ cs) = length-le-encodes (c ∷ cs) in omega arith
 
-IsJoined-given_of : (names : List NameParts) (w : Written) → IsSpelled w → IsJoined (given_of names w)
-unfolding IsJoined
-IsJoined-given_of names end s = tt
-IsJoined-given_of names (text t w) s = IsJoined-with_text names t (joined w) (IsAscii-from_text t s.0) (IsJoined-given_of names w s.1)
-IsJoined-given_of names (element n inside w) s = (refl, IsJoined-given_of names inside s.1, IsJoined-given_of names w s.2)
+-- a text in front
+depth_of-with_text : (t : List ℕ) (g : Given) → depth_of (with_text t g) ≡ depth_of g
+depth_of-with_text [] g = refl
+depth_of-with_text (c ∷ cs) end = refl
+depth_of-with_text (c ∷ cs) (text t rest) = refl
+depth_of-with_text (c ∷ cs) (comment t rest) = refl
+depth_of-with_text (c ∷ cs) (element name attributes content rest) = refl
 
--- depth
-height_of-with_text : (t : List ℕ) (w : Written) → height_of (with_text t w) ≡ height_of w
-height_of-with_text [] w = refl
-height_of-with_text (c ∷ cs) end = refl
-height_of-with_text (c ∷ cs) (text u w) = refl
-height_of-with_text (c ∷ cs) (element n inside w) = refl
+front_size-with_text : (t : List ℕ) (g : Given) → front_size (with_text t g) ≡ size_of t + front_size g
+front_size-with_text [] g = omega arith
+front_size-with_text (c ∷ cs) end = omega arith
+front_size-with_text (c ∷ cs) (text t rest) = size_of-append (c ∷ cs) t
+front_size-with_text (c ∷ cs) (comment t rest) = omega arith
+front_size-with_text (c ∷ cs) (element name attributes content rest) = omega arith
 
-height_of-joined : (w : Written) → height_of (joined w) ≡ height_of w
-height_of-joined end = refl
-height_of-joined (text t w) = height_of-with_text t (joined w) ∙ height_of-joined w
-height_of-joined (element n inside w) = omega (arith, height_of-joined inside, height_of-joined w)
+texts-with_text : (t : List ℕ) (g : Given) → AreTexts g → size_of t + front_size g ≤ 16384 → AreTexts (with_text t g)
+texts-with_text [] g h short = h
+texts-with_text (c ∷ cs) end h short = (λ (e : c ∷ cs ≡ []). absurd (cc), omega arith, tt, tt)
+texts-with_text (c ∷ cs) (text t rest) h short =
+    (λ (e : c ∷ (cs ++ t) ≡ []). absurd (cc), omega (arith, size_of-append (c ∷ cs) t), h.2, h.3)
+texts-with_text (c ∷ cs) (comment t rest) h short = (λ (e : c ∷ cs ≡ []). absurd (cc), omega arith, tt, h)
+texts-with_text (c ∷ cs) (element name attributes content rest) h short = (λ (e : c ∷ cs ≡ []). absurd (cc), omega arith, tt, h)
 
-depth_of-numbered : (names : List NameParts) (w : Written) → depth_of (numbered_names names w) ≡ height_of w
-depth_of-numbered names end = refl
-depth_of-numbered names (text t w) = depth_of-numbered names w
-depth_of-numbered names (element n inside w) = omega (arith, depth_of-numbered names inside, depth_of-numbered names w)
+front_count-with_text : (c : ℕ) (cs : List ℕ) (g : Given) → front_count (with_text (c ∷ cs) g) ≡ 1
+front_count-with_text c cs end = refl
+front_count-with_text c cs (text t rest) = refl
+front_count-with_text c cs (comment t rest) = refl
+front_count-with_text c cs (element name attributes content rest) = refl
 
-depth_of-given_of : (names : List NameParts) (w : Written) → depth_of (given_of names w) ≡ height_of w
-depth_of-given_of names w = depth_of-numbered names (joined w) ∙ height_of-joined w
+count_of-with_text : (c : ℕ) (cs : List ℕ) (g : Given) → count_of (with_text (c ∷ cs) g) + front_count g ≡ count_of g + 1
+count_of-with_text c cs end = refl
+count_of-with_text c cs (text t rest) = omega arith
+count_of-with_text c cs (comment t rest) = omega arith
+count_of-with_text c cs (element name attributes content rest) = omega arith
 
--- in each table the limits are the same
-count_of-names : (names other : List NameParts) (w : Written) → count_of (numbered_names names w) ≡ count_of (numbered_names other w)
-count_of-names names other end = refl
-count_of-names names other (text t w) = omega (arith, count_of-names names other w)
-count_of-names names other (element n inside w) = omega (arith, count_of-names names other inside, count_of-names names other w)
+abbrev one_if : Bool → ℕ
+one_if begins = if begins then 1 else 0
 
-BeginsNoText-names : (names other : List NameParts) (w : Written) → BeginsNoText (numbered_names names w) → BeginsNoText (numbered_names other w)
-BeginsNoText-names names other end h = tt
-BeginsNoText-names names other (text t w) h = absurd h
-BeginsNoText-names names other (element n inside w) h = tt
-
-AreTexts-names : (names other : List NameParts) (w : Written) → AreTexts (numbered_names names w) → AreTexts (numbered_names other w)
-AreTexts-names names other end h = tt
-AreTexts-names names other (text t w) h = (h.0, h.1, BeginsNoText-names names other w h.2, AreTexts-names names other w h.3)
-AreTexts-names names other (element n inside w) h = (refl, AreTexts-names names other inside h.1, AreTexts-names names other w h.2)
-
--- a document's items are within the limits
-pub AreWithin-from_document : (names : List NameParts) (lines : List Line) (w : Written) → IsDocument w → map (λ (l : Line). l.bytes) lines ≡ written_lines w → AreWithin (joined_items (map (token_of names) lines))
-AreWithin-from_document names lines w d e =
-    let same = items_of-lines names lines w e d.spelled in
-    let xs = joined_items (map (token_of names) lines) in
-    let whole = d.whole names in
-    let nodes : nodes_in xs ≡ count_of (given_of names w) = sym (nodes_in-without_line xs) ∙ ap nodes_in same ∙ nodes_in-items_of (given_of names w) in (
-      omega (arith, whole.few),
-      are_short-numbered xs (rw same (are_short-from_texts (given_of names w) whole.texts)),
-    )
-
-pub IsBuilt-from_document : (lines : List (List ℕ)) (w : Written) → IsDocument w → lines ≡ written_lines w → IsBuilt lines
-IsBuilt-from_document lines w d e =
-    let whole = d.whole [] in
-    record {
-      document = w;
-      name = d.name;
-      content = d.content;
-      outermost = d.outermost;
-      spelled = d.spelled;
-      shallow = omega (arith, whole.shallow, depth_of-given_of [] w);
-      same = e;
-    }
-
--- and what is within the limits is a document
-IsWhole-from_built : (names other : List NameParts) (items : List TreeItem) (w : Written) (n : List ℕ) (inside : Written) → w ≡ element n inside end → IsSpelled w → height_of w ≤ 120 → map without_line items ≡ items_of (given_of names w) → AreWithin items → IsWhole (given_of other w)
-IsWhole-from_built names other items w n inside o s d same h =
-    let texts = AreTexts-from_joined (given_of names w) (IsJoined-given_of names w s) (rw same at (are_short-plain items h.1)) in
-    let nodes : nodes_in items ≡ count_of (given_of names w) = sym (nodes_in-without_line items) ∙ ap nodes_in same ∙ nodes_in-items_of (given_of names w) in
-    record {
-      name = id_of other (plain_name n);
-      content = given_of other inside;
-      outermost = ap (given_of other) o;
-      texts = AreTexts-names names other (joined w) texts;
-      few = omega (arith, h.0, count_of-names names other (joined w));
-      shallow = omega (arith, depth_of-given_of other w);
-    }
-
-pub IsDocument-from_built : (names : List NameParts) (items : List TreeItem) (lines : List Line) (b : IsBuilt (map (λ (l : Line). l.bytes) lines)) → items ≡ joined_items (map (token_of names) lines) → AreWithin items → IsDocument b.document
-IsDocument-from_built names items lines b e h =
-    record {
-      name = b.name;
-      content = b.content;
-      outermost = b.outermost;
-      spelled = b.spelled;
-      whole = λ other. IsWhole-from_built names other items b.document b.name b.content b.outermost b.spelled b.shallow (ap (map without_line) e ∙ items_of-lines names lines b.document b.same b.spelled) h;
-    }
-
-pub IsTree-from_built : (names : List NameParts) (items : List TreeItem) (lines : List Line) → IsBuilt (map (λ (l : Line). l.bytes) lines) → items ≡ joined_items (map (token_of names) lines) → AreWithin items → IsTree items
-IsTree-from_built names items lines b e h =
-    let document = IsDocument-from_built names items lines b e h in
-    record { given = given_of names b.document; same = ap (map without_line) e ∙ items_of-lines names lines b.document b.same b.spelled; whole = document.whole names }
-
--- a text that is too long stays so
-pub long_text : (t : List ℕ) (rest : List TreeItem) → AllByRecursion IsShort (with_item (item.Text t) rest) → length (encode_utf8_all t) ≤ 16384
-long_text [] rest h = omega arith
-long_text (c ∷ cs) [] h = h.0
-long_text (c ∷ cs) (item.Begin n a l ∷ rest) h = h.0
-long_text (c ∷ cs) (item.Text u ∷ rest) h =
-    let sum : length (encode_utf8_all ((c ∷ cs) ++ u)) ≡ length (encode_utf8_all (c ∷ cs)) + length (encode_utf8_all u) = ap length (encodes-append (c ∷ cs) u) ∙ length-append (encode_utf8_all (c ∷ cs)) (encode_utf8_all u) in
-    let bound : length (encode_utf8_all ((c ∷ cs) ++ u)) ≤ 16384 = h.0 in
+counted_text : (t : List ℕ) (g : Given) (size nodes last : ℕ) → last + joins (size + size_of t) g ≡ nodes + one_if (size == 0 && nat_lt 0 (size_of t)) + count_of g
+    → last + joins size (with_text t g) ≡ nodes + count_of (with_text t g)
+counted_text [] g size nodes last h =
+    let same : size + size_of [] ≡ size = omega arith in
+    let none : one_if (size == 0 && nat_lt 0 (size_of [])) ≡ 0 = ap one_if (and_right (size == 0) (nat_lt 0 (size_of [])) refl) in
+    let less : last + joins size g ≡ nodes + one_if (size == 0 && nat_lt 0 (size_of [])) + count_of g = sym (ap (λ n. last + joins n g) same) ∙ h in
     omega arith
-long_text (c ∷ cs) (item.Comment u ∷ rest) h = h.0
-long_text (c ∷ cs) (item.Finish ∷ rest) h = h.0
+counted_text (c ∷ cs) g zero nodes last h =
+    let some = size_of-some c cs in
+    let begins : one_if (0 == 0 && nat_lt 0 (size_of (c ∷ cs))) ≡ 1 = ap one_if (lt-ltb 0 (size_of (c ∷ cs)) some) in
+    let joined : joins (0 + size_of (c ∷ cs)) g ≡ front_count g = joins-some (0 + size_of (c ∷ cs)) g (omega arith) in
+    let counted = count_of-with_text c cs g in
+    omega arith
+counted_text (c ∷ cs) g (suc size) nodes last h =
+    let goes_on : one_if (suc size == 0 && nat_lt 0 (size_of (c ∷ cs))) ≡ 0 = ap one_if (and_left (suc size == 0) (nat_lt 0 (size_of (c ∷ cs))) (eqb-suc-zero size)) in
+    let joined : joins (suc size + size_of (c ∷ cs)) g ≡ front_count g = joins-some (suc size + size_of (c ∷ cs)) g (omega arith) in
+    let counted = count_of-with_text c cs g in
+    let front = front_count-with_text c cs g in
+    omega arith
+
+few_more : (begins : Bool) (nodes : ℕ) → nodes ≤ 1000000 → (begins ≡ true → nodes < 1000000) → nodes + one_if begins ≤ 1000000
+few_more true nodes few room = let more = room refl in omega arith
+few_more false nodes few room = omega arith
+
+-- an element's attributes
+record HasAttributes (pairs : List AttrPair) (before after : List (List ℕ)) : Type 0 where
+  opens : open_elements after ≡ open_elements before
+  nodes : node_count after ≡ node_count before
+  size : text_size after ≡ 0
+  short : AllByRecursion (λ (pair : AttrPair). IsShort pair.value) pairs
+
+short_pairs : (names : List NameParts) (spaces : List Space) (name value : List ℕ) (more : List AttrPair) → (is_declaration name ≡ false → size_of (meant value) ≤ 16384)
+    → AllByRecursion (λ (pair : AttrPair). IsShort pair.value) more → AllByRecursion (λ (pair : AttrPair). IsShort pair.value) (pair_for names spaces name value ++ more)
+short_pairs names spaces name value more short h = by (is_declaration name) refl
+  where
+    by : (declares : Bool) → is_declaration name ≡ declares → AllByRecursion (λ (pair : AttrPair). IsShort pair.value) (pair_for names spaces name value ++ more)
+    by true e = rw e h
+    by false e = rw e (short e, h)
+
+has_attributes : (names : List NameParts) (spaces : List Space) (xs : List Attribute) (before : List (List ℕ)) → AllByRecursion (λ (x : Attribute). IsTrue (is_name x.name)) xs
+    → AreFaultless spaces before (map attribute_bytes xs) → text_size before ≡ 0 → HasAttributes (flat_map (pair_in names spaces) xs) before (past (map attribute_bytes xs) before)
+has_attributes names spaces [] before named h none = record { opens = refl; nodes = refl; size = none; short = tt }
+has_attributes names spaces (x ∷ xs) before named h none =
+    let said = tag_of-attribute x.name x.value named.0 in
+    let line : List ℕ = attribute_bytes x in
+    let faultless : said_fault spaces before (Some (tag.Attribute x.name x.value)) ≡ None = ap (said_fault spaces before) (sym said) ∙ h.0 in
+    let nothing : text_size (line ∷ before) ≡ 0 = ap (λ t. size_behind t (text_size before)) said in
+    let opens : open_elements (line ∷ before) ≡ open_elements before = ap (λ t. opened (length before) t (open_elements before)) said in
+    let nodes : node_count (line ∷ before) ≡ node_count before + 0 = ap (λ t. node_count before + nodes_at t (text_size before)) said in
+    let more = has_attributes names spaces xs (line ∷ before) named.1 h.1 nothing in
+    record {
+      opens = more.opens ∙ opens;
+      nodes = omega (arith, more.nodes);
+      size = more.size;
+      short = short_pairs names spaces x.name x.value (flat_map (pair_in names spaces) xs) (attribute-none spaces before x.name x.value faultless).short more.short;
+    }
+
+-- neighbours
+record IsWithin (g : Given) (before after : List (List ℕ)) : Type 0 where
+  opens : open_elements after ≡ open_elements before
+  counted : node_count after + joins (text_size before) g ≡ node_count before + count_of g
+  few : node_count after ≤ 1000000
+  shallow : depth_of g + length (open_elements before) ≤ 120
+  texts : AreTexts g
+  front : text_size before + front_size g ≤ 16384
+
+-- an element
+ended_opens : (name : List ℕ) (before named filled : List (List ℕ)) → open_elements named ≡ open_elements ((40 ∷ name) ∷ before) → open_elements filled ≡ open_elements named → open_elements ((41 ∷ name) ∷ filled) ≡ open_elements before
+ended_opens name before named filled begun same = ap without_innermost (same ∙ begun)
+
+element_within : (id : NameId) (pairs : List AttrPair) (content rest : Given) (name : List ℕ) (before named filled after : List (List ℕ)) → text_size before ≤ 16384
+    → HasAttributes pairs ((40 ∷ name) ∷ before) named → IsWithin content named filled → IsWithin rest ((41 ∷ name) ∷ filled) after → IsWithin (element id pairs content rest) before after
+element_within id pairs content rest name before named filled after short attributes inside behind =
+    let outside = ended_opens name before named filled attributes.opens inside.opens in
+    let start : joins (text_size named) content ≡ 0 = ap (λ n. joins n content) attributes.size in
+    let none = joins-none (text_size before) (element id pairs content rest) refl in
+    record {
+      opens = behind.opens ∙ outside;
+      counted = omega (arith, attributes.nodes, inside.counted, behind.counted);
+      few = behind.few;
+      shallow = omega (arith, inside.shallow, behind.shallow, ap length attributes.opens, ap length outside);
+      texts = (attributes.short, inside.texts, behind.texts);
+      front = omega arith;
+    }
+
+is_within : (names : List NameParts) (spaces : List Space) (w : Written) (before : List (List ℕ)) → AreParted w → AreFaultless spaces before (written_lines w)
+    → length (open_elements before) ≤ 120 → node_count before ≤ 1000000 → text_size before ≤ 16384 → IsWithin (given_in names spaces w) before (past (written_lines w) before)
+is_within names spaces written.end before p h deep few short =
+    record { opens = refl; counted = omega (arith, joins-none (text_size before) end refl); few = few; shallow = omega arith; texts = tt; front = omega arith }
+is_within names spaces (written.text t w) before p h deep few short =
+    let kept = text-none before t h.0 in
+    let line : List ℕ = 45 ∷ t in
+    let g = given_in names spaces w in
+    let more = is_within names spaces w (line ∷ before) p h.1 deep (few_more (begins_text (text_size before) t) (node_count before) few kept.few) kept.short in
+    record {
+      opens = more.opens;
+      counted = counted_text (meant t) g (text_size before) (node_count before) (node_count (past (written_lines w) (line ∷ before))) more.counted;
+      few = more.few;
+      shallow = omega (arith, more.shallow, depth_of-with_text (meant t) g);
+      texts = texts-with_text (meant t) g more.texts (omega (arith, more.front));
+      front = omega (arith, more.front, front_size-with_text (meant t) g);
+    }
+is_within names spaces (written.comment t w) before p h deep few short =
+    let room = comment-none before t h.0 in
+    let line : List ℕ = 67 ∷ t in
+    let g = given_in names spaces w in
+    let more = is_within names spaces w (line ∷ before) p h.1 deep (omega arith) (omega arith) in
+    record {
+      opens = more.opens;
+      counted = omega (arith, more.counted, joins-none (text_size before) (comment (meant t) g) refl);
+      few = more.few;
+      shallow = omega (arith, more.shallow);
+      texts = more.texts;
+      front = omega arith;
+    }
+is_within names spaces (written.element name xs content w) before p h deep few short =
+    let kept = begin-none spaces before name h.0 in
+    let begun = (40 ∷ name) ∷ before in
+    let named = past (map attribute_bytes xs) begun in
+    let filled = past (written_lines content) named in
+    let ended = (41 ∷ name) ∷ filled in
+    let one = faultless_parts spaces begun (map attribute_bytes xs) (written_lines content ++ (41 ∷ name) ∷ written_lines w) h.1 in
+    let two = faultless_parts spaces named (written_lines content) ((41 ∷ name) ∷ written_lines w) one.1 in
+    let attributes = has_attributes names spaces xs begun p.0 one.0 refl in
+    let size = ap length attributes.opens in
+    let inside = is_within names spaces content named p.1 two.0 (omega (arith, size, kept.shallow)) (omega (arith, attributes.nodes, kept.few)) (omega (arith, attributes.size)) in
+    let outside = ended_opens name before named filled attributes.opens inside.opens in
+    let behind = is_within names spaces w ended p.2 two.1.1 (omega (arith, ap length outside)) (omega (arith, inside.few)) (omega arith) in
+    let lines : past (map attribute_bytes xs ++ (written_lines content ++ (41 ∷ name) ∷ written_lines w)) begun ≡ past (written_lines w) ended =
+    past-append (map attribute_bytes xs) (written_lines content ++ (41 ∷ name) ∷ written_lines w) begun ∙ past-append (written_lines content) ((41 ∷ name) ∷ written_lines w) named in
+    let id = id_of names (element_name spaces name) in
+    let pairs = flat_map (pair_in names spaces) xs in
+    subst (IsWithin (element id pairs (given_in names spaces content) (given_in names spaces w)) before) (sym lines)
+    (element_within id pairs (given_in names spaces content) (given_in names spaces w) name before named filled (past (written_lines w) ended) short attributes inside behind)
+
+-- the outermost element with comments beside it
+comments_given : (names : List NameParts) (spaces : List Space) (w : Written) → documents.AreComments w → AreComments (given_in names spaces w)
+comments_given names spaces written.end h = tt
+comments_given names spaces (written.text t w) h = absurd h
+comments_given names spaces (written.comment t w) h = comments_given names spaces w h
+comments_given names spaces (written.element name xs content w) h = absurd h
+
+top_given : (names : List NameParts) (spaces : List Space) (w : Written) → documents.IsTop w → IsTop (given_in names spaces w)
+top_given names spaces written.end h = absurd h
+top_given names spaces (written.text t w) h = absurd h
+top_given names spaces (written.comment t w) h = top_given names spaces w h
+top_given names spaces (written.element name xs content w) h = comments_given names spaces w h
+
+pub document_whole : (names : List NameParts) (document : Written) → IsDocument document → IsWhole (given_of names document)
+document_whole names document d =
+    let spaces = spaces_of document in
+    let all = is_within names spaces document [] d.parted (are_faultless spaces [] (written_lines document) d.faultless) (omega arith) (omega arith) (omega arith) in
+    record {
+      top = top_given names spaces document d.top;
+      texts = all.texts;
+      few = omega (arith, all.counted, all.few);
+      shallow = omega (arith, all.shallow);
+    }

@@ -1,12 +1,16 @@
--- A tree without numbers, as `read_tree` hands it on: elements by the numbers of their names, texts by their characters.
-use Rattle.std.specs.Prelude.{◌≡◌, ◌≢◌, ℕ, ◌+◌, ◌≤◌, List, [], ◌∷◌, ◌++◌, max, length, encode_utf8_all}
-use Rattle.std.specs.Str.{chars}
+-- A tree without numbers, as `read_tree` hands it on: elements and attributes by the numbers of their names, texts by their characters.
+use Rattle.std.specs.Prelude.{◌≡◌, ◌≢◌, ℕ, ◌+◌, ◌≤◌, List, [], ◌∷◌, ◌++◌, max, if◌then◌else◌}
+use Rattle.std.specs.List.{AllByRecursion, flat_map}
 use Rattle.serna_kinds.specs.declared.cells.NameId.{NameId}
 use Rattle.serna_kinds.specs.declared.cells.AttrPair.{AttrPair}
-use Rattle.serna_kinds.specs.Names.{NameParts, plain_name, id_of}
+use Rattle.serna_kinds.specs.Names.{NameParts, Space, id_of}
+use Rattle.serna_kinds.specs.Qualified.{element_name, attribute_name}
 use Rattle.tree_lines.specs.declared.tree.TreeItem.{TreeItem}
 use Rattle.tree_lines.specs.declared.tree.TreeItem.TheVariants as item
-use Rattle.tree_lines.specs.Written.{Written}
+use Rattle.tree_lines.specs.Texts.{meant, size_of}
+use Rattle.tree_lines.specs.Tags.{is_declaration}
+use Rattle.tree_lines.specs.Declarations.{spaces_in}
+use Rattle.tree_lines.specs.Written.{Written, Attribute, written_lines}
 use Rattle.tree_lines.specs.Written as written
 
 -- neighbours: a text, a comment or an element, and what follows it
@@ -43,37 +47,64 @@ BeginsNoText (text t rest) = ⊥
 BeginsNoText (comment t rest) = Unit {0}
 BeginsNoText (element name attributes content rest) = Unit {0}
 
--- each text has characters, at most 16,384 bytes of them, and no text as its neighbour; in the built form elements have no attributes
+-- a text or an attribute's value has at most 16,384 bytes
+abbrev pub IsShort : List ℕ → Type 0
+IsShort t = size_of t ≤ 16384
+
+-- each text has characters, is short, and has no text as its neighbour; each attribute's value is short
 abbrev pub AreTexts : Given → Type 0
 AreTexts end = Unit {0}
-AreTexts (text t rest) = (t ≢ []) × (length (encode_utf8_all t) ≤ 16384) × BeginsNoText rest × AreTexts rest
+AreTexts (text t rest) = (t ≢ []) × IsShort t × BeginsNoText rest × AreTexts rest
 AreTexts (comment t rest) = AreTexts rest
-AreTexts (element name attributes content rest) = (attributes ≡ []) × AreTexts content × AreTexts rest
+AreTexts (element name attributes content rest) = AllByRecursion (λ (pair : AttrPair). IsShort pair.value) attributes × AreTexts content × AreTexts rest
 
--- one element, within the limits of a section: 1,000,000 nodes, and elements 120 deep
+-- one element, with comments beside it
+abbrev pub AreComments : Given → Type 0
+AreComments end = Unit {0}
+AreComments (text t rest) = ⊥
+AreComments (comment t rest) = AreComments rest
+AreComments (element name attributes content rest) = ⊥
+
+abbrev pub IsTop : Given → Type 0
+IsTop end = ⊥
+IsTop (text t rest) = ⊥
+IsTop (comment t rest) = IsTop rest
+IsTop (element name attributes content rest) = AreComments rest
+
+-- one element with comments beside it, within the limits of a section: 1,000,000 nodes, and elements 120 deep
 pub record IsWhole (given : Given) : Type 0 where
-  pub name : NameId
-  pub content : Given
-  pub outermost : given ≡ element name [] content end
+  pub top : IsTop given
   pub texts : AreTexts given
   pub few : count_of given ≤ 1000000
   pub shallow : depth_of given ≤ 120
 
--- the same tree with each name by its number in the table
-abbrev pub numbered_names : List NameParts → Written → Given
-numbered_names names written.end = end
-numbered_names names (written.text t rest) = text (chars t) (numbered_names names rest)
-numbered_names names (written.element name content rest) =
-    element (id_of names (plain_name name)) [] (numbered_names names content) (numbered_names names rest)
+-- a text in front of what follows it: neighbouring texts make one, and an empty one makes none
+abbrev pub with_text : List ℕ → Given → Given
+with_text [] rest = rest
+with_text (c ∷ cs) end = text (c ∷ cs) end
+with_text (c ∷ cs) (text t rest) = text ((c ∷ cs) ++ t) rest
+with_text (c ∷ cs) (comment t rest) = text (c ∷ cs) (comment t rest)
+with_text (c ∷ cs) (element name attributes content rest) = text (c ∷ cs) (element name attributes content rest)
 
--- the tree that a written document gives
+-- an attribute with its name's number and its value's characters; one that declares a namespace is none
+abbrev pub pair_for : List NameParts → List Space → List ℕ → List ℕ → List AttrPair
+pair_for names spaces name value =
+    if is_declaration name then [] else record { name = id_of names (attribute_name spaces name); value = meant value } ∷ []
+
+abbrev pub pair_in : List NameParts → List Space → Attribute → List AttrPair
+pair_in names spaces attribute = pair_for names spaces attribute.name attribute.value
+
+-- the tree of neighbours as they are written: each name by its number in the table, each text by the characters that it means
+abbrev pub given_in : List NameParts → List Space → Written → Given
+given_in names spaces written.end = end
+given_in names spaces (written.text t rest) = with_text (meant t) (given_in names spaces rest)
+given_in names spaces (written.comment t rest) = comment (meant t) (given_in names spaces rest)
+given_in names spaces (written.element name attributes content rest) =
+    element (id_of names (element_name spaces name)) (flat_map (pair_in names spaces) attributes) (given_in names spaces content) (given_in names spaces rest)
+
+-- what a document declares, and its tree
+abbrev pub spaces_of : Written → List Space
+spaces_of document = spaces_in (written_lines document)
+
 abbrev pub given_of : List NameParts → Written → Given
-given_of names document = numbered_names names (written.joined document)
-
--- a document of the built form: one element, each name a name and each text a text, and the tree within the limits
-pub record IsDocument (document : Written) : Type 0 where
-  pub name : List ℕ
-  pub content : Written
-  pub outermost : document ≡ written.element name content written.end
-  pub spelled : written.IsSpelled document
-  pub whole : (names : List NameParts) → IsWhole (given_of names document)
+given_of names document = given_in names (spaces_of document) document

@@ -1,6 +1,4 @@
-ghost use Rattle.std.specs.Prelude.{◌≡◌, map};
-
-use serna_kinds::{AttrPair, Chars, Items, NameId};
+use serna_kinds::{AttrPair, Chars, Items, NameId, Spaces};
 use std::marker::Model;
 
 /// A line of the input: its number, from 1 over the whole input, and its bytes without the LF.
@@ -20,41 +18,47 @@ pub enum TreeItem {
     Finish,
 }
 
-/// A tree that was read: its items in document order. Contracts see the list of the items.
+/// A tree that was read: its items in document order, and the namespaces that its outermost element declares.
 #[derive(Debug, Drop)]
 pub struct Tree {
     items: Items<TreeItem>,
+    spaces: Spaces,
 }
 
 impl Model for Tree {
-    ghost use Rattle.std.specs.Prelude.{List};
-    ghost use Rattle.tree_lines.specs.declared.tree.TreeItem.{TreeItem};
+    ghost use Rattle.tree_lines.specs.Whole.{ReadTree, IsTree};
 
-    ghost Value = { List TreeItem };
+    ghost Value = { ReadTree };
 
-    ghost use Rattle.tree_lines.specs.Whole.{IsTree};
-
-    ghost view = { λ t. t.items };
+    ghost view = { λ t. record { items = t.items; spaces = t.spaces } };
 
     ghost invariant = { λ t. IsTree t.items };
 }
 
 impl Tree {
+    ghost use Rattle.std.specs.Prelude.{◌≡◌};
     ghost use Rattle.tree_lines.specs.Whole.{IsTree};
 
     // The tree of these items.
-    pub(crate) fn from_items(items: Items<TreeItem>) -> Tree
+    pub(crate) fn from_parts(items: Items<TreeItem>, spaces: Spaces) -> Tree
         requires { IsTree items }
-        ensures { result ≡ items }
+        ensures { result ≡ record { items = items; spaces = spaces } }
     {
-        Tree { items }
+        Tree { items, spaces }
     }
 
-    /// The items, those of one element within the limits of a section.
+    /// The items, those of one element with comments beside it, within the limits of a section.
     pub fn items(&self) -> &[TreeItem]
-        ensures value { result.now ≡ self.now }
-        ensures whole { IsTree self.now }
+        ensures value { result.now ≡ self.now.items }
+        ensures whole { IsTree self.now.items }
     {
         self.items.as_slice()
+    }
+
+    /// The namespaces that the outermost element declares, in the order of its lines.
+    pub fn spaces(&self) -> &Spaces
+        ensures { result.now ≡ self.now.spaces }
+    {
+        &self.spaces
     }
 }

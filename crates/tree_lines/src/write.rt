@@ -1,14 +1,15 @@
-ghost use Rattle.std.specs.Prelude.{◌≡◌, ◌++◌, ◌∷◌, [], List, map, IfOk, OnOk, encode_utf8_all};
+ghost use Rattle.std.specs.Prelude.{◌≡◌, ℕ, ◌++◌, ◌∷◌, [], List, map, IfOk, OnOk, encode_utf8_all};
 ghost use Rattle.std.specs.Str.{chars};
 ghost use Rattle.std.specs.String.{string_bytes};
+ghost use Rattle.serna_kinds.specs.Names.{space};
 ghost use Rattle.tree_lines.specs.declared.tree.TreeItem.{TreeItem};
 ghost use Rattle.tree_lines.specs.Given.{Given, items_of};
 ghost use Rattle.tree_lines.specs.Tokens.{without_line};
-ghost use Rattle.tree_lines.specs.Canonical.{qualified, spelling_of, escape_of, escaped, text_line, comment_line, attribute_line, begin_lines, end_line, line_text, text_of_lines, canonical_text};
+ghost use Rattle.tree_lines.specs.Canonical.{qualified, spelling_of, escape_of, escaped, text_line, comment_line, attribute_line, declaration_line, begin_lines, outermost_lines, end_line, line_text, text_of_lines, canonical_text};
 ghost use Rattle.tree_lines.specs.Writing.{Writing, written_with};
 
 use crate::{Tree, TreeItem};
-use serna_kinds::{AttrPair, Chars, Items, NameId, NameTable, NoMemory};
+use serna_kinds::{AttrPair, Chars, Items, NameId, NameTable, NoMemory, Spaces};
 use std::alloc::Global;
 use std::marker::Model;
 
@@ -82,6 +83,32 @@ fn push_text_line(out: &mut String, mark: &str, text: &Chars) -> Result<(), NoMe
     Ok(())
 }
 
+// Adds the lines of declarations, in their order.
+fn push_declarations(out: &mut String, spaces: &Spaces) -> Result<(), NoMemory>
+    ensures { OnOk result (string_bytes out.new ≡ string_bytes out.old ++ text_of_lines (map declaration_line spaces.now)) }
+{
+    for place in 0..spaces.len() {
+        if let Some((prefix, uri)) = spaces.declaration(place) {
+            push_declaration(out, prefix, uri)?;
+        }
+    }
+    Ok(())
+}
+
+fn push_declaration(out: &mut String, prefix: &str, uri: &str) -> Result<(), NoMemory>
+    ensures { OnOk result (string_bytes out.new ≡ string_bytes out.old ++ line_text (declaration_line (space prefix.now uri.now))) }
+{
+    out.push_str("Axmlns")?;
+    if !prefix.is_empty() {
+        out.push_str(":")?;
+        out.push_str(prefix)?;
+    }
+    out.push_str(" ")?;
+    push_escaped(out, uri)?;
+    out.push_str(LINE_END)?;
+    Ok(())
+}
+
 fn push_attribute(out: &mut String, pair: &AttrPair, names: &NameTable) -> Result<(), NoMemory>
     ensures { OnOk result (string_bytes out.new ≡ string_bytes out.old ++ line_text (attribute_line names.now pair.now)) }
 {
@@ -145,6 +172,22 @@ impl TreeWriter {
         Ok(())
     }
 
+    /// Begins the outermost element: writes its name, what the document declares, and its attributes.
+    pub fn begin_outermost(
+        &mut self,
+        name: NameId,
+        attributes: &[AttrPair],
+        names: &NameTable,
+        spaces: &Spaces,
+    ) -> Result<(), NoMemory>
+        ensures { OnOk result (self.new ≡ self.old ++ text_of_lines (outermost_lines names.now spaces.now name attributes.now)) }
+    {
+        push_name_line(&mut self.text, "(", name, names)?;
+        push_declarations(&mut self.text, spaces)?;
+        push_attributes(&mut self.text, attributes, names)?;
+        Ok(())
+    }
+
     /// Writes a text.
     pub fn text(&mut self, text: &Chars) -> Result<(), NoMemory>
         ensures { OnOk result (self.new ≡ self.old ++ line_text (text_line text.now)) }
@@ -179,30 +222,52 @@ impl TreeWriter {
     }
 }
 
-// A tree that is being written: the writer, and the names of the open elements, the outermost first.
+// A tree that is being written: the writer, what the next element is to declare, and the names of the open elements, the
+// outermost first.
 #[derive(Drop)]
-struct TreeWalk {
+struct TreeWalk<'a> {
     writer: TreeWriter,
+    undeclared: Option<&'a Spaces>,
     outer: Items<NameId>,
 }
 
-impl Model for TreeWalk {
-    ghost use Rattle.std.specs.Prelude.{reverse};
+impl<'a> Model for TreeWalk<'a> {
+    ghost use Rattle.std.specs.Prelude.{reverse, Some, None, []};
     ghost use Rattle.tree_lines.specs.Writing.{Writing};
 
     ghost Value = { Writing };
 
-    ghost view = { λ w. record { text = w.writer; open_names = reverse w.outer } };
+    ghost view = { λ w. record { text = w.writer; spaces = elim w.undeclared [ None ↦ [] | Some spaces ↦ spaces.now ]; open_names = reverse w.outer } };
 }
 
-impl TreeWalk {
-    fn new(alloc: Global) -> TreeWalk
-        ensures { result ≡ record { text = []; open_names = [] } }
+impl<'a> TreeWalk<'a> {
+    fn new(alloc: Global, spaces: &'a Spaces) -> TreeWalk<'a>
+        ensures { result ≡ record { text = []; spaces = spaces.now; open_names = [] } }
     {
         TreeWalk {
             writer: TreeWriter::new(alloc),
+            undeclared: Some(spaces),
             outer: Items::new(alloc),
         }
+    }
+
+    // Writes an element's beginning; the first one declares the namespaces.
+    fn begin(
+        &mut self,
+        name: NameId,
+        attributes: &[AttrPair],
+        names: &NameTable,
+    ) -> Result<(), NoMemory>
+        ensures { OnOk result ((rest : List TreeItem) (line : ℕ) → written_with names.now self.new rest ≡ written_with names.now self.old (TreeItem.Begin name attributes.now line ∷ rest)) }
+    {
+        match self.undeclared.take() {
+            Some(spaces) => self
+                .writer
+                .begin_outermost(name, attributes, names, spaces)?,
+            None => self.writer.begin(name, attributes, names)?,
+        }
+        self.outer.push(name)?;
+        Ok(())
     }
 
     // Writes an item.
@@ -211,8 +276,7 @@ impl TreeWalk {
     {
         match item {
             TreeItem::Begin(name, attributes, _) => {
-                self.writer.begin(*name, attributes.as_slice(), names)?;
-                self.outer.push(*name)?;
+                self.begin(*name, attributes.as_slice(), names)?;
                 Ok(())
             }
             TreeItem::Text(text) => {
@@ -233,19 +297,19 @@ impl TreeWalk {
     }
 
     fn into_chars(self) -> Chars
-        ensures { encode_utf8_all result ≡ self.text }
+        ensures { encode_utf8_all result ≡ self.entry.text }
     {
         let TreeWalk { writer, .. } = self;
         writer.into_chars()
     }
 }
 
-/// Writes the canonical text of a tree, whose elements and attributes have their names in the table.
+/// Writes the canonical text of a tree that was read, whose elements and attributes have their names in the table.
 pub fn write_tree(alloc: Global, tree: &Tree, names: &NameTable) -> Result<Chars, NoMemory>
-    // In UTF-8 it is the canonical text of the tree that the items are.
-    ensures text { IfOk result (λ text. (given : Given) → map without_line tree.now ≡ items_of given → encode_utf8_all text ≡ canonical_text names.now given) }
+    // In UTF-8 it is the canonical text of the tree that the items are, with what it declares.
+    ensures text { IfOk result (λ text. (given : Given) → map without_line tree.now.items ≡ items_of given → encode_utf8_all text ≡ canonical_text names.now tree.now.spaces given) }
 {
-    let mut walk = TreeWalk::new(alloc);
+    let mut walk = TreeWalk::new(alloc, tree.spaces());
     for item in tree.items() {
         walk.step(item, names)?;
     }

@@ -1,7 +1,7 @@
 -- The bytes so far are digits, and the number is what they say.
 use Rattle.std.proofs.Common.{◌≡◌, true, ◌<◌, ◌^◌, take}
 use Rattle.std.specs.List.{list_all}
-use Rattle.tree_lines.specs.Written.{is_digit}
+use Rattle.serna_kinds.specs.Qualified.{is_digit}
 use Rattle.plain_editor.specs.Commands.{number_of}
 use Rattle.live_editor.proofs.command.read_number.Given as goal
 

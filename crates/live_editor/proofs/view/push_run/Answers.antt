@@ -1,11 +1,11 @@
-use Rattle.std.proofs.Common.{◌≡◌, ℕ, ◌+◌, List, [], ◌++◌, length, encode_utf8_all, refl, sym, ap, ◌∙◌, arith, length-append}
+use Rattle.std.proofs.Common.{◌≡◌, ℕ, ◌+◌, List, [], ◌++◌, length, map, encode_utf8_all, refl, sym, ap, ◌∙◌, arith, length-append}
 use Rattle.std.proofs.lemmas.List.{append-nil, nil_from_length}
-use Rattle.std.proofs.lemmas.Str.{encodes-chars}
 use Rattle.std.specs.Char.{encode_utf8}
 use Rattle.std.specs.Str.{chars}
 use Rattle.std.specs.Str.Iter.{char_indices_rest, char_indices_offset}
 use Rattle.std.specs.String.{string_bytes}
 use Rattle.std.specs.declared.str.CharIndices.{CharIndices}
+use Rattle.plain_editor.specs.Editor.{printed}
 use Rattle.plain_editor.specs.Runs.{Origin}
 use Rattle.plain_editor.specs.Stops.{behind_start, run_boundaries}
 use Rattle.live_editor.specs.Shown.{origin_of, boundaries_of}
@@ -57,8 +57,8 @@ returns c =
     (boundaries_of c.loop-at.view.boundaries.items) c.loop-at.invariant.begun empty in
     let last : origin_of c.behind_start-2.result ≡ behind_start (char_indices_offset here) from = c.behind_start-2.ensures ∙ ap (λ n. behind_start n from) (sym end) in
     record {
-      line = c.in_ok-push_str.ensures.bytes ∙ ap (λ l. string_bytes l ++ c.args.text.now) c.loop-at.invariant.line
-          ∙ ap (λ b. string_bytes c.args.view.now.line ++ b) (sym (encodes-chars c.args.text.now c.utf8.text) ∙ ap encode_utf8_all (sym (append-nil text)));
+      line = c.in_ok-push_printed.ensures ∙ ap (λ l. string_bytes l ++ encode_utf8_all (map printed text)) c.loop-at.invariant.line
+          ∙ ap (λ t. string_bytes c.args.view.now.line ++ encode_utf8_all (map printed t)) (sym (append-nil text));
       boundaries = boundaries_of-more c.loop-at.view.boundaries.items c.push-2.new.self.items c.loop-at.view.column (char_indices_offset here) c.behind_start-2.result from c.in_ok-push-2.ensures.items last
           ∙ all.0 ∙ ap (λ bs. boundaries_of c.args.view.now.boundaries.items ++ bs) (sym (append-nil (run_boundaries c.args.view.now.column 0 from text)));
       column = all.1 ∙ ap (λ t. c.args.view.now.column + length t) (sym (append-nil text));

@@ -48,7 +48,7 @@ returns-in-Some-2-clause-accepted c =
     ap (λ ls. bytes_of (take c.in-Some.place ls)) (sym c.deref.ensures.value) ∙ found.spelled in
     record {
       document = found.document;
-      is-input = is_input c.args.bytes.now c.in_ok-lines.lines.items c.in-Some.place found.document lines at.0 at.1 c.if-bytes-gt-MOST.false found.built spelled;
+      is-input = is_input c.args.bytes.now c.in_ok-lines.lines.items c.in-Some.place found.document lines at.0 at.1 c.if-bytes-gt-MOST.false found.built found.plain spelled;
       within = omega (arith, within);
       table = found.table;
       begins = found.begins;

@@ -3,6 +3,7 @@ use Rattle.std.proofs.lemmas.List.{take_rest}
 use Rattle.tree_lines.specs.declared.tree.Line.{Line}
 use Rattle.serna_outside.specs.Outside.{Appends}
 use Rattle.plain_editor.specs.Editor.{names_of, start, opened, replies}
+use Rattle.tree_lines.proofs.Faultless.{one_document}
 use Rattle.serna_main.specs.declared.status.Status.TheVariants as status
 use Rattle.serna_main.specs.declared.sections.Sections.{Sections}
 use Rattle.serna_main.specs.Outside.{AppendsFront}
@@ -26,7 +27,7 @@ returns-in-Ok g c = λ input j.
     let faults = g.K.Sink.faults in
     let script : List (List ℕ) = bytes_of (drop c.args.sections.first c.args.sections.lines.items) in
     let same = said input c.args.sections j c.deref.result.now c.deref.ensures.value in
-    answered_ok input j.document script (held c.args.sink.now) (held c.close.new.sink) (faults c.args.sink.now) (faults c.close.new.sink) (g.K.Sink.is_finished c.close.new.sink) c.close.result j.is-input
+    answered_ok one_document input j.document script (held c.args.sink.now) (held c.close.new.sink) (faults c.args.sink.now) (faults c.close.new.sink) (g.K.Sink.is_finished c.close.new.sink) c.close.result j.is-input
     (subst (λ h. Appends (held c.args.sink.now) h (replies (opened (names_of j.document) (start j.document)) script)) (sym c.close.ensures.held)
     (subst (Appends (held c.args.sink.now) (held c.run_script.new.sink)) same (c.in-Ok.ensures.ok refl)))
     (subst (λ f. IsClosed status.Ok c.close.result f (faults c.close.new.sink) (g.K.Sink.is_finished c.close.new.sink)) (c.in-Ok.ensures.kept refl) c.close.ensures.status)
@@ -41,7 +42,7 @@ returns-in-NoMemory g c = λ input j.
     subst (λ h. AppendsFront (held c.args.sink.now) h (replies (opened (names_of j.document) (start j.document)) script)) (sym c.close-in-NoMemory.ensures.held)
     (subst (AppendsFront (held c.args.sink.now) (held c.run_script.new.sink)) same c.in-NoMemory.ensures.front) in
     answered_no_memory input (held c.args.sink.now) (held c.close-in-NoMemory.new.sink) (faults c.args.sink.now) (faults c.close-in-NoMemory.new.sink) (g.K.Sink.is_finished c.close-in-NoMemory.new.sink)
-    c.close-in-NoMemory.result (front_accepted input j.document script (held c.args.sink.now) (held c.close-in-NoMemory.new.sink) j.is-input front) c.close-in-NoMemory.ensures.status
+    c.close-in-NoMemory.result (front_accepted one_document input j.document script (held c.args.sink.now) (held c.close-in-NoMemory.new.sink) j.is-input front) c.close-in-NoMemory.ensures.status
 
 pub returns-in-WriteFault : goal.returns-in-WriteFault
 returns-in-WriteFault g c = λ input j.
@@ -52,4 +53,4 @@ returns-in-WriteFault g c = λ input j.
     let front : AppendsFront (held c.args.sink.now) (held c.run_script.new.sink) (replies (opened (names_of j.document) (start j.document)) script) =
     subst (AppendsFront (held c.args.sink.now) (held c.run_script.new.sink)) same c.in-WriteFault.ensures.front in
     answered_write_fault input (held c.args.sink.now) (held c.run_script.new.sink) (faults c.args.sink.now) (faults c.run_script.new.sink) (g.K.Sink.is_finished c.run_script.new.sink)
-    (front_accepted input j.document script (held c.args.sink.now) (held c.run_script.new.sink) j.is-input front) (c.in-WriteFault.ensures.write_fault refl)
+    (front_accepted one_document input j.document script (held c.args.sink.now) (held c.run_script.new.sink) j.is-input front) (c.in-WriteFault.ensures.write_fault refl)

@@ -5,13 +5,16 @@ use Rattle.source_tree.specs.Lines.{AreWithin, StillToWrite}
 use Rattle.source_tree.proofs.lines.+writing.Given as goal
 
 abbrev pub decreases-write_kids : goal.decreases-write_kids
-decreases-write_kids l = 3 * l.left + 2
+decreases-write_kids l = 4 * l.left + 2
 
 abbrev pub decreases-write_node : goal.decreases-write_node
-decreases-write_node l = 3 * l.left + 1
+decreases-write_node l = 4 * l.left + 1
 
 abbrev pub decreases-write_element : goal.decreases-write_element
-decreases-write_element l = 3 * l.left
+decreases-write_element l = 4 * l.left
+
+abbrev pub decreases-write_content : goal.decreases-write_content
+decreases-write_content l = 4 * l.left + 3
 
 -- the neighbours that were written, and those that are left
 abbrev pub invariant-write_kids-neighbours : goal.invariant-write_kids-neighbours

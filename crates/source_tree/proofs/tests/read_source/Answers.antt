@@ -1,23 +1,26 @@
-use Rattle.std.proofs.Common.{◌≡◌, List, [], ◌∷◌, map, refl, sym, ap, ◌∙◌, arith}
+use Rattle.std.proofs.Common.{◌≡◌, List, [], map, sym, ap, ◌∙◌, subst}
 use Rattle.std.proofs.lemmas.List.{append-nil}
-use Rattle.std.proofs.lemmas.Str.{chars-IsAscii}
-use Rattle.serna_kinds.specs.Names.{NameParts, plain_name, id_of}
+use Rattle.serna_kinds.specs.Names.{NameParts, Space}
 use Rattle.tree_lines.specs.declared.tree.Line.{Line}
-use Rattle.tree_lines.specs.Written.{Written}
-use Rattle.tree_lines.specs.Written as written
-use Rattle.tree_lines.specs.Given as given
+use Rattle.tree_lines.specs.Written.{written_lines}
+use Rattle.tree_lines.specs.Given.{given_of}
+use Rattle.source_model.specs.Source.{Source}
+use Rattle.source_model.specs.Changes.{text_at}
+use Rattle.source_tree.specs.Prims.{HasPlace}
 use Rattle.source_tree.specs.Begun.{begun}
-use Rattle.source_tree.proofs.Small.{one_ascii}
+use Rattle.source_tree.proofs.Small.{document, is_document, begun_text, begun_inner, begun_made}
 use Rattle.source_tree.proofs.tests.read_source.Goals as goal
 
--- the lines are those of a document, whose tree is an element with a text
+-- the source is the one that the document's tree begins
 pub returns : goal.returns
 returns c =
     let table : List NameParts = c.read_tree.new.names in
-    let document : Written = written.element (101 ∷ []) (written.text (116 ∷ []) written.end) written.end in
-    let lines : map (λ (line : Line). line.bytes) c.as_slice.result.now ≡ written.written_lines document = ap (map (λ (line : Line). line.bytes)) c.as_slice.ensures.value ∙ c.in_ok-lines.ensures in
-    let tree = c.in_ok-tree.ensures.given table ([], sym (append-nil table)) document lines (refl, (refl, tt), tt) in (
-      id_of table (plain_name (101 ∷ [])),
-      c.in_ok-source.ensures.source (given.given_of table document) tree
-          ∙ ap (λ t. begun (given.element (id_of table (plain_name (101 ∷ []))) [] (given.text t given.end) given.end)) (chars-IsAscii (116 ∷ []) (one_ascii 116 (omega arith))),
-    )
+    let spaces : List Space = c.in_ok-tree.tree.spaces in
+    let lines : map (λ (line : Line). line.bytes) c.as_slice.result.now ≡ written_lines document = ap (map (λ (line : Line). line.bytes)) c.as_slice.ensures.value ∙ c.in_ok-lines.ensures in
+    let begins : c.in_ok-source.source ≡ begun spaces (given_of table document) =
+    c.in_ok-source.ensures.source (given_of table document) (c.in_ok-tree.ensures.given table ([], sym (append-nil table)) document is_document lines) in
+    record {
+      text = ap (λ s. text_at s 3) begins ∙ begun_text table spaces;
+      inner = subst (λ s. HasPlace s 4 0) (sym begins) (begun_inner table spaces);
+      made = ap (λ (s : Source). s.made) begins ∙ begun_made table spaces;
+    }

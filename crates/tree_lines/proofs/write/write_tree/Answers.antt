@@ -11,9 +11,10 @@ returns c =
     let items = c.items-item-items.result.now in
     let walk = c.loop-item.walk in
     let names = c.args.names.now in
+    let spaces = c.args.tree.now.spaces in
     let none = drop_all c.loop-item.item-index items c.loop-item-test.false in
     record {
       text = λ tree same.
           c.into_chars.ensures
-          ∙ canonical_text-from_items names items tree walk.text (ap (written_with names walk) (sym none) ∙ c.loop-item.invariant) (ap (map without_line) c.items-item-items.ensures.value ∙ same);
+          ∙ canonical_text-from_items names spaces items tree walk.text (ap (written_with names walk) (sym none) ∙ c.loop-item.invariant) (ap (map without_line) c.items-item-items.ensures.value ∙ same);
     }

@@ -1,6 +1,5 @@
 -- A new text is made the first child of an element.
-use Rattle.std.proofs.Common.{◌≡◌, ◌+◌, ◌≤◌, ◌∷◌, [], ◌++◌, ℕ, List, sym, ap, ◌∙◌, subst, arith}
-use Rattle.std.specs.Str.{chars}
+use Rattle.std.proofs.Common.{◌≡◌, ◌+◌, ◌≤◌, ◌∷◌, [], ◌++◌, length, ℕ, List, sym, ap, ◌∙◌, subst, arith}
 use Rattle.source_model.specs.Cells.{named}
 use Rattle.source_tree.specs.declared.prim.SubItem.{SubItem}
 use Rattle.source_tree.specs.declared.prim.SubItem.TheVariants as item
@@ -14,16 +13,16 @@ use Rattle.live_editor.proofs.editor.Editor.type_into_element.Goals as goal
 pub change-requires-clause-sound : goal.change-requires-clause-sound
 change-requires-clause-sound c =
     let now : Editor = c.args.self.now in
-    let text : List ℕ = chars c.args.text.now in
+    let text : List ℕ = c.args.text in
     let sound : IsSomeSound now = subst IsSomeSound c.self.view_is c.self.invariant in
     let revision : c.self.inside.revision ≡ now.revision = ap (λ (e : Editor). e.revision) c.self.view_is in
     let made : c.made-made.result ≡ now.source.made = c.made-made.ensures ∙ ap (λ (e : Editor). e.source.made) c.self.view_is in
-    let bytes = c.byte_len.ensures in
-    let short : bytes_of text ≤ 16384 = omega (arith, bytes, c.if-byte_len-gt-MAX_TEXT_BYTES.false) in
+    let bytes : length c.as_text-more.result.now ≡ bytes_of text = ap length c.as_text-more.ensures.bytes in
+    let short : bytes_of text ≤ 16384 = omega (arith, bytes, c.if-more-gt-MAX_TEXT_BYTES.false) in
     let items : c.push.new.self ≡ item.Text (named (now.source.made + 1)) text ∷ [] =
-    c.in_ok-push.ensures.ok ∙ ap (λ (xs : List SubItem). xs ++ item.Text (record { 0 = c.made-made.result + 1 }) c.in_ok-from_text.field-0 ∷ []) c.new-items.ensures
-    ∙ ap (λ n. item.Text (record { 0 = n + 1 }) c.in_ok-from_text.field-0 ∷ []) made ∙ ap (λ t. item.Text (named (now.source.made + 1)) t ∷ []) c.in_ok-from_text.ensures in
-    subst (λ xs. IsSomeSound (changed now (InsertChild c.args.node 0 xs) (Text (record { 0 = c.made-made.result + 1 }) c.byte_len-2.result) c.args.occurrence)) (sym items)
-    (subst (λ n. IsSomeSound (changed now (InsertChild c.args.node 0 (item.Text (named (now.source.made + 1)) text ∷ [])) (Text (record { 0 = n + 1 }) c.byte_len-2.result) c.args.occurrence)) (sym made)
-    (subst (λ n. IsSomeSound (changed now (InsertChild c.args.node 0 (item.Text (named (now.source.made + 1)) text ∷ [])) (Text (named (now.source.made + 1)) n) c.args.occurrence)) (sym c.byte_len-2.ensures)
+    c.in_ok-push.ensures.ok ∙ ap (λ (xs : List SubItem). xs ++ item.Text (record { 0 = c.made-made.result + 1 }) text ∷ []) c.new-items.ensures
+    ∙ ap (λ n. item.Text (record { 0 = n + 1 }) text ∷ []) made in
+    subst (λ xs. IsSomeSound (changed now (InsertChild c.args.node 0 xs) (Text (record { 0 = c.made-made.result + 1 }) (length c.as_text-more.result.now)) c.args.occurrence)) (sym items)
+    (subst (λ n. IsSomeSound (changed now (InsertChild c.args.node 0 (item.Text (named (now.source.made + 1)) text ∷ [])) (Text (record { 0 = n + 1 }) (length c.as_text-more.result.now)) c.args.occurrence)) (sym made)
+    (subst (λ n. IsSomeSound (changed now (InsertChild c.args.node 0 (item.Text (named (now.source.made + 1)) text ∷ [])) (Text (named (now.source.made + 1)) n) c.args.occurrence)) (sym bytes)
     (into_sound now text c.args.node c.args.occurrence sound c.requires.place c.requires.some short (omega (arith, made, c.if-made-ge-MAX_NODES.false)) (omega (arith, revision, c.if-self-ge-MAX_REVISIONS.false)))))

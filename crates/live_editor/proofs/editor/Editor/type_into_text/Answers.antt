@@ -1,11 +1,9 @@
 -- Characters are put into a text node that has room for them.
-use Rattle.std.proofs.Common.{◌≡◌, ◌+◌, refl, sym, ap, ◌∙◌, subst, arith}
-use Rattle.std.specs.Str.{chars}
+use Rattle.std.proofs.Common.{◌≡◌, ◌+◌, length, refl, sym, ap, ◌∙◌, subst, arith}
 use Rattle.source_model.specs.Changes.{text_at}
 use Rattle.source_tree.specs.declared.prim.Primitive.TheVariants.{InsertText}
 use Rattle.source_tree.specs.declared.prim.CaretPlace.TheVariants.{Text}
-use Rattle.source_tree.specs.Prims.{MayApply}
-use Rattle.plain_editor.specs.Editor.{Editor, Done, changed}
+use Rattle.plain_editor.specs.Editor.{Editor, Done, bytes_of, changed}
 use Rattle.live_editor.specs.Held.{IsSomeSound}
 use Rattle.live_editor.proofs.Typing.{room_there, place_short, text_revisions, text_done, text_sound, text_may}
 use Rattle.live_editor.proofs.editor.Editor.type_into_text.Goals as goal
@@ -16,19 +14,20 @@ returns-then-self-ge-MAX_REVISIONS-clause-refused c =
     let sound : IsSomeSound now = subst IsSomeSound c.self.view_is c.self.invariant in
     let same : c.self.inside.source ≡ now.source = ap (λ (e : Editor). e.source) c.self.view_is in
     let revision : c.self.inside.revision ≡ now.revision = ap (λ (e : Editor). e.revision) c.self.view_is in
-    let short = room_there now c.args.node c.args.at c.text_len.result c.byte_len.result c.saturating_sub-room.result (chars c.args.text.now) sound c.requires.place
-    (λ t is. c.text_len.ensures t (ap (λ s. text_at s c.args.node.0) same ∙ is)) c.byte_len.ensures c.saturating_sub-room.ensures (omega (arith, c.if-byte_len-room.false)) in
-    (refl, text_revisions now (chars c.args.text.now) c.args.node c.args.at c.args.occurrence short (omega (arith, revision, c.if-self-ge-MAX_REVISIONS.true)))
+    let bytes : length c.as_text-more.result.now ≡ bytes_of c.args.text = ap length c.as_text-more.ensures.bytes in
+    let short = room_there now c.args.node c.args.at c.text_len.result (length c.as_text-more.result.now) c.saturating_sub-room.result c.args.text sound c.requires.place
+    (λ t is. c.text_len.ensures t (ap (λ s. text_at s c.args.node.0) same ∙ is)) bytes c.saturating_sub-room.ensures (omega (arith, c.if-more-room.false)) in
+    (refl, text_revisions now c.args.text c.args.node c.args.at c.args.occurrence short (omega (arith, revision, c.if-self-ge-MAX_REVISIONS.true)))
 
 pub overflow_add-at : goal.overflow_add-at
 overflow_add-at c =
     let now : Editor = c.args.self.now in
     let sound : IsSomeSound now = subst IsSomeSound c.self.view_is c.self.invariant in
     let same : c.self.inside.source ≡ now.source = ap (λ (e : Editor). e.source) c.self.view_is in
-    let short = room_there now c.args.node c.args.at c.text_len.result c.byte_len.result c.saturating_sub-room.result (chars c.args.text.now) sound c.requires.place
-    (λ t is. c.text_len.ensures t (ap (λ s. text_at s c.args.node.0) same ∙ is)) c.byte_len.ensures c.saturating_sub-room.ensures (omega (arith, c.if-byte_len-room.false)) in
+    let bytes : length c.as_text-more.result.now ≡ bytes_of c.args.text = ap length c.as_text-more.ensures.bytes in
+    let short = room_there now c.args.node c.args.at c.text_len.result (length c.as_text-more.result.now) c.saturating_sub-room.result c.args.text sound c.requires.place
+    (λ t is. c.text_len.ensures t (ap (λ s. text_at s c.args.node.0) same ∙ is)) bytes c.saturating_sub-room.ensures (omega (arith, c.if-more-room.false)) in
     let near = place_short now.source sound.0 (Text c.args.node c.args.at) sound.1.proper c.requires.place in
-    let bytes = c.byte_len-2.ensures in
     omega (arith, short, near, bytes)
 
 pub change-requires-clause-may : goal.change-requires-clause-may
@@ -36,9 +35,10 @@ change-requires-clause-may c =
     let now : Editor = c.args.self.now in
     let sound : IsSomeSound now = subst IsSomeSound c.self.view_is c.self.invariant in
     let same : c.self.inside.source ≡ now.source = ap (λ (e : Editor). e.source) c.self.view_is in
-    let short = room_there now c.args.node c.args.at c.text_len.result c.byte_len.result c.saturating_sub-room.result (chars c.args.text.now) sound c.requires.place
-    (λ t is. c.text_len.ensures t (ap (λ s. text_at s c.args.node.0) same ∙ is)) c.byte_len.ensures c.saturating_sub-room.ensures (omega (arith, c.if-byte_len-room.false)) in
-    subst (λ t. MayApply (InsertText c.args.node c.args.at t) now.source) (sym c.in_ok-from_text.ensures) (text_may now (chars c.args.text.now) c.args.node c.args.at c.requires.place short)
+    let bytes : length c.as_text-more.result.now ≡ bytes_of c.args.text = ap length c.as_text-more.ensures.bytes in
+    let short = room_there now c.args.node c.args.at c.text_len.result (length c.as_text-more.result.now) c.saturating_sub-room.result c.args.text sound c.requires.place
+    (λ t is. c.text_len.ensures t (ap (λ s. text_at s c.args.node.0) same ∙ is)) bytes c.saturating_sub-room.ensures (omega (arith, c.if-more-room.false)) in
+    text_may now c.args.text c.args.node c.args.at c.requires.place short
 
 pub change-requires-clause-sound : goal.change-requires-clause-sound
 change-requires-clause-sound c =
@@ -46,11 +46,11 @@ change-requires-clause-sound c =
     let sound : IsSomeSound now = subst IsSomeSound c.self.view_is c.self.invariant in
     let same : c.self.inside.source ≡ now.source = ap (λ (e : Editor). e.source) c.self.view_is in
     let revision : c.self.inside.revision ≡ now.revision = ap (λ (e : Editor). e.revision) c.self.view_is in
-    let short = room_there now c.args.node c.args.at c.text_len.result c.byte_len.result c.saturating_sub-room.result (chars c.args.text.now) sound c.requires.place
-    (λ t is. c.text_len.ensures t (ap (λ s. text_at s c.args.node.0) same ∙ is)) c.byte_len.ensures c.saturating_sub-room.ensures (omega (arith, c.if-byte_len-room.false)) in
-    subst (λ t. IsSomeSound (changed now (InsertText c.args.node c.args.at t) (Text c.args.node (c.args.at + c.byte_len-2.result)) c.args.occurrence)) (sym c.in_ok-from_text.ensures)
-    (subst (λ n. IsSomeSound (changed now (InsertText c.args.node c.args.at (chars c.args.text.now)) (Text c.args.node (c.args.at + n)) c.args.occurrence)) (sym c.byte_len-2.ensures)
-    (text_sound now (chars c.args.text.now) c.args.node c.args.at c.args.occurrence sound c.requires.place short (omega (arith, revision, c.if-self-ge-MAX_REVISIONS.false))))
+    let bytes : length c.as_text-more.result.now ≡ bytes_of c.args.text = ap length c.as_text-more.ensures.bytes in
+    let short = room_there now c.args.node c.args.at c.text_len.result (length c.as_text-more.result.now) c.saturating_sub-room.result c.args.text sound c.requires.place
+    (λ t is. c.text_len.ensures t (ap (λ s. text_at s c.args.node.0) same ∙ is)) bytes c.saturating_sub-room.ensures (omega (arith, c.if-more-room.false)) in
+    subst (λ n. IsSomeSound (changed now (InsertText c.args.node c.args.at c.args.text) (Text c.args.node (c.args.at + n)) c.args.occurrence)) (sym bytes)
+    (text_sound now c.args.text c.args.node c.args.at c.args.occurrence sound c.requires.place short (omega (arith, revision, c.if-self-ge-MAX_REVISIONS.false)))
 
 pub returns-clause-ok : goal.returns-clause-ok
 returns-clause-ok c =
@@ -58,10 +58,9 @@ returns-clause-ok c =
     let sound : IsSomeSound now = subst IsSomeSound c.self.view_is c.self.invariant in
     let same : c.self.inside.source ≡ now.source = ap (λ (e : Editor). e.source) c.self.view_is in
     let revision : c.self.inside.revision ≡ now.revision = ap (λ (e : Editor). e.revision) c.self.view_is in
-    let short = room_there now c.args.node c.args.at c.text_len.result c.byte_len.result c.saturating_sub-room.result (chars c.args.text.now) sound c.requires.place
-    (λ t is. c.text_len.ensures t (ap (λ s. text_at s c.args.node.0) same ∙ is)) c.byte_len.ensures c.saturating_sub-room.ensures (omega (arith, c.if-byte_len-room.false)) in
-    text_done now (chars c.args.text.now) c.args.node c.args.at c.args.occurrence short (omega (arith, revision, c.if-self-ge-MAX_REVISIONS.false))
+    let bytes : length c.as_text-more.result.now ≡ bytes_of c.args.text = ap length c.as_text-more.ensures.bytes in
+    let short = room_there now c.args.node c.args.at c.text_len.result (length c.as_text-more.result.now) c.saturating_sub-room.result c.args.text sound c.requires.place
+    (λ t is. c.text_len.ensures t (ap (λ s. text_at s c.args.node.0) same ∙ is)) bytes c.saturating_sub-room.ensures (omega (arith, c.if-more-room.false)) in
+    text_done now c.args.text c.args.node c.args.at c.args.occurrence short (omega (arith, revision, c.if-self-ge-MAX_REVISIONS.false))
     ∙ ap (λ (e : Editor). (e, Done))
-    (sym (c.in_ok-change.ensures.ok
-    ∙ ap (λ t. changed now (InsertText c.args.node c.args.at t) (Text c.args.node (c.args.at + c.byte_len-2.result)) c.args.occurrence) c.in_ok-from_text.ensures
-    ∙ ap (λ n. changed now (InsertText c.args.node c.args.at (chars c.args.text.now)) (Text c.args.node (c.args.at + n)) c.args.occurrence) c.byte_len-2.ensures))
+    (sym (c.in_ok-change.ensures.ok ∙ ap (λ n. changed now (InsertText c.args.node c.args.at c.args.text) (Text c.args.node (c.args.at + n)) c.args.occurrence) bytes))

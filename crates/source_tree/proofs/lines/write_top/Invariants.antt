@@ -1,0 +1,11 @@
+use Rattle.std.proofs.Common.{◌≡◌, ℕ, false, map, Option}
+use Rattle.source_model.specs.Source.{Forest, numbers}
+use Rattle.source_model.specs.Cells.{named}
+use Rattle.source_tree.specs.Lines.{AreWithin, StillAtTop}
+use Rattle.source_tree.proofs.lines.write_top.Given as goal
+
+-- the neighbours that were written, no element among them, and those that are left
+abbrev pub invariant-neighbours : goal.invariant-neighbours
+invariant-neighbours l =
+    (up : Option ℕ) (forest : Forest) → AreWithin l.nodes up 120 forest → l.kids ≡ map named (numbers forest) →
+    StillAtTop l.nodes up l.kids l.place l.names l.spaces l.initial.writer false l.writer forest

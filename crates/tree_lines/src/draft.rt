@@ -1,0 +1,65 @@
+//! A text that is being written.
+ghost use Rattle.std.specs.Prelude.{◌≡◌, [], ◌∷◌, ◌++◌, OnOk, OnErr};
+ghost use Rattle.std.specs.Str.{chars};
+ghost use Rattle.tree_lines.specs.Texts.{size_of};
+
+use serna_kinds::{Chars, NoMemory};
+use std::alloc::Global;
+use std::marker::Model;
+
+// A text that is being written, which contracts see as the list of its characters.
+#[derive(Drop)]
+pub(crate) struct Draft {
+    text: String,
+}
+
+impl Model for Draft {
+    ghost use Rattle.std.specs.Prelude.{ℕ, List};
+    ghost use Rattle.std.specs.Str.{chars};
+    ghost use Rattle.std.specs.String.{string_bytes};
+
+    ghost Value = { List ℕ };
+
+    ghost view = { λ draft. chars (string_bytes draft.text) };
+}
+
+impl Draft {
+    // The text without characters. Takes no memory.
+    pub(crate) fn new(alloc: Global) -> Draft
+        ensures { result ≡ [] }
+    {
+        Draft {
+            text: String::new(alloc),
+        }
+    }
+
+    // Writes a character at the end.
+    pub(crate) fn push(&mut self, character: char) -> Result<(), NoMemory>
+        ensures { OnOk result (self.new ≡ self.old ++ character ∷ []) }
+    {
+        self.text.push(character)
+    }
+
+    // Writes a text at the end.
+    pub(crate) fn push_text(&mut self, text: &Chars) -> Result<(), NoMemory>
+        ensures ok { OnOk result (self.new ≡ self.old ++ text.now) }
+        ensures err { OnErr result (self.new ≡ self.old) }
+    {
+        self.text.push_str(text.as_text())
+    }
+
+    // How many bytes the text has.
+    pub(crate) fn len(&self) -> usize
+        ensures { result ≡ size_of self.now }
+    {
+        self.text.len()
+    }
+
+    // The text as it is written. Takes no memory.
+    pub(crate) fn into_chars(self) -> Chars
+        ensures { result ≡ self }
+    {
+        let Draft { text } = self;
+        Chars::from_string(text)
+    }
+}
