@@ -82,7 +82,7 @@ module _ (of : Level) (k : ℕ) (tighter : rank of < k) (IsOperand : Part → Ty
       ∙ ap (λ b. outcome (Some (at place.Operand (cond b (pending.Chain (longer c p.tree x.0) ∷ s) (pending.Chain (begun p.tree x.0) ∷ (pending.Chain c ∷ s))))) more) (same_rank c.level (level_of x.0) (same ∙ sym all.0.0))
       ∙ reads_others xs all.1 x.1 all.0.1 (longer c p.tree x.0) same s rest f
 
-  reads_chain : Reads (rank of) (IsChain of IsOperand)
+  pub reads_chain : Reads (rank of) (IsChain of IsOperand)
   reads_chain p is s fits rest f =
       ap (λ (w : Part). outcome (Some (at place.Operand s)) (w.tokens ++ rest)) is.whole_is
       ∙ go is.others is.others_are
@@ -459,7 +459,7 @@ module _ (IsInner : Part → Type 0) (reads : Reads 1 IsInner) where
       ∙ ap (λ e. outcome (Some (behind (whole (expr.Path (start.From e) steps)) s)) rest) (filter_tree is.from base)
       ∙ ap (λ (w : Part). outcome (Some (behind (whole w.tree) s)) rest) (sym is.whole_is)
 
-  reads_path : Reads 9 (IsPath IsInner)
+  pub reads_path : Reads 9 (IsPath IsInner)
   reads_path p (inl is) s fits rest f = reads_relative p is s rest f
   reads_path p (inr (inl is)) s fits rest f =
       ap (λ (w : Part). outcome (Some (at place.Operand s)) (w.tokens ++ rest)) is
@@ -489,3 +489,7 @@ reads_expr_in (suc depth) p is s fits rest f = reads_or (IsExprIn depth) (reads_
 -- the tokens of an expression lead to its tree
 pub reads_expr : (tokens : List Symbol) (tree : Expr) → IsExpr tokens tree → outcome (Some beginning) tokens ≡ Some tree
 reads_expr tokens tree (depth, is) = ap (outcome (Some beginning)) (sym (append-nil tokens)) ∙ reads_expr_in depth (part tokens tree) is [] tt [] tt
+
+-- a list of tokens is at most one expression
+pub one_expr : (tokens : List Symbol) (one other : Expr) → IsExpr tokens one → IsExpr tokens other → one ≡ other
+one_expr tokens one other first second = let same : Some one ≡ Some other = sym (reads_expr tokens one first) ∙ reads_expr tokens other second in cc

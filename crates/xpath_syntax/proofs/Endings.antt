@@ -13,11 +13,13 @@ use Rattle.xpath_syntax.specs.declared.state.Place.TheVariants as place
 use Rattle.xpath_syntax.specs.declared.state.State.{State}
 use Rattle.xpath_syntax.specs.Trees.{self_node}
 use Rattle.xpath_syntax.specs.Machine.{at, here, with_step, operand_tree, whole, chained, behind, beginning, after, finish, run}
-use Rattle.xpath_syntax.specs.Grammar.{BeginsExpr}
+use Rattle.xpath_syntax.specs.Grammar.{IsExpr}
+use Rattle.xpath_syntax.specs.Stops.{BeginsBy}
 use Rattle.serna_kinds.specs.declared.expressions.NodeTest.TheVariants as test
 use Rattle.xpath_syntax.proofs.Outcomes.{outcome, rank-some, Follows, chain_ends, sign_ends}
 use Rattle.xpath_syntax.proofs.Completeness.{reads_expr}
 use Rattle.xpath_syntax.proofs.States.{Front, Has}
+use Rattle.xpath_syntax.proofs.Stopping.{ReadsBy}
 use Rattle.xpath_syntax.proofs.Steps.{Moved, has_more, has_begun, is_expr}
 
 -- the brackets that are still to be closed
@@ -68,10 +70,19 @@ place_ends d (place.NodeOpen p a x) s before front = (symbol.Open ∷ (symbol.Cl
 place_ends d (place.NodeClose p a x) s before front = (symbol.Close ∷ closers s, operand_ends d s before front (operand.Step p a x []))
 place_ends d (place.Behind o) s before front = (closers s, operand_ends d s before front o)
 
-outcome-run : (o : Option State) (ts more : List Symbol) → outcome o (ts ++ more) ≡ outcome (run o ts) more
+pub outcome-run : (o : Option State) (ts more : List Symbol) → outcome o (ts ++ more) ≡ outcome (run o ts) more
 outcome-run None ts more = refl
 outcome-run (Some s) [] more = refl
 outcome-run (Some s) (t ∷ ts) more = outcome-run (after s t) ts more
+
+pub run-push : (o : Option State) (ts : List Symbol) (t : Symbol) (state : State) → run o ts ≡ Some state → run o (ts ++ t ∷ []) ≡ after state t
+run-push None ts t state e = cc
+run-push (Some s) [] t state e = let same : s ≡ state = cc in ap (λ x. run (Some x) (t ∷ [])) same ∙ run-none (after state t)
+  where
+    run-none : (o : Option State) → run o [] ≡ o
+    run-none None = refl
+    run-none (Some s) = refl
+run-push (Some s) (u ∷ ts) t state e = run-push (after s u) ts t state e
 
 -- what is said of a state that tokens have led to
 has_run : (d : ℕ) (state : State) (tokens rest : List Symbol) (last : State) → Has d state tokens → length rest ≤ d → run (Some state) rest ≡ Some last → (k : ℕ) × Has k last (tokens ++ rest)
@@ -87,17 +98,27 @@ has_run (suc d) state tokens (t ∷ ts) last has le e =
     go (Some next) (k, low, w) f rest = let r = rest k next w (omega arith) f in (r.0, subst (Has r.0 last) (append_assoc tokens (t ∷ []) ts) r.1)
 
 -- where the machine has taken these tokens, an expression can begin with them
-pub begins : (tokens : List Symbol) (state : State) → run (Some beginning) tokens ≡ Some state → BeginsExpr tokens
+pub begins : (tokens : List Symbol) (state : State) → run (Some beginning) tokens ≡ Some state → BeginsBy IsExpr tokens
 begins tokens state e =
     let has = has_run (length tokens) beginning [] tokens state (has_begun (length tokens)) (omega arith) e in
     let end = place_ends has.0 state.place state.stack has.1.before has.1.front in
     (end.0, end.1.0, is_expr (tokens ++ end.0) end.1.0 (outcome-run (Some beginning) tokens end.0 ∙ ap (λ o. outcome o end.0) e ∙ end.1.1))
 
 -- where it has not, none can
-pub stuck : (tokens : List Symbol) → run (Some beginning) tokens ≡ None → BeginsExpr tokens → ⊥
+pub stuck : (tokens : List Symbol) → run (Some beginning) tokens ≡ None → BeginsBy IsExpr tokens → ⊥
 stuck tokens e (more, tree, is) =
     let no_tree : None ≡ Some tree = sym (outcome-run (Some beginning) tokens more ∙ ap (λ o. outcome o more) e) ∙ reads_expr (tokens ++ more) tree is in cc
 
 -- the tree, where the machine has taken all the tokens
 pub ended_so : (tokens : List Symbol) (state : State) → run (Some beginning) tokens ≡ Some state → outcome (Some beginning) tokens ≡ finish state
 ended_so tokens state e = ap (outcome (Some beginning)) (sym (append-nil tokens)) ∙ outcome-run (Some beginning) tokens [] ∙ ap (λ o. outcome o []) e
+
+-- what the machine of expressions does with tokens
+pub reads_expressions : ReadsBy (run (Some beginning)) after finish IsExpr
+reads_expressions = record {
+  more = λ tokens state t e. run-push (Some beginning) tokens t state e;
+  begins = begins;
+  stuck = stuck;
+  tree = λ tokens state tree e f. is_expr tokens tree (ended_so tokens state e ∙ f);
+  none = λ tokens state tree e f is. (let no_tree : None ≡ Some tree = sym f ∙ sym (ended_so tokens state e) ∙ reads_expr tokens tree is in cc);
+}

@@ -84,7 +84,7 @@ rank-tier level.Additive = refl
 rank-tier level.Multiplicative = refl
 rank-tier level.Union = refl
 
-chain_in_tier : (I : Part → Type 0) (l : Level) (p : Part) → IsChain l (tier I (tier_of l)) p → tier I (suc (tier_of l)) p
+pub chain_in_tier : (I : Part → Type 0) (l : Level) (p : Part) → IsChain l (tier I (tier_of l)) p → tier I (suc (tier_of l)) p
 chain_in_tier I level.Or p is = is
 chain_in_tier I level.And p is = is
 chain_in_tier I level.Equality p is = is

@@ -467,7 +467,7 @@ star_spelled false = refl
 quote_is : (b : ℕ) → ((b == 34) || (b == 39)) ≡ true → (b ≡ 34) ⊎ (b ≡ 39)
 quote_is b e = elim (either (b == 34) (b == 39) e) [ inl f ↦ inl (equal b 34 f) | inr f ↦ inr (equal b 39 f) ]
 
-front_spelled : (behind : Bool) (b : ℕ) (bs : List ℕ) → Front (b ∷ bs) (front behind (b ∷ bs))
+pub front_spelled : (behind : Bool) (b : ℕ) (bs : List ℕ) → Front (b ∷ bs) (front behind (b ∷ bs))
 front_spelled behind b bs =
     choice (b ∷ bs) ((b == 34) || (b == 39)) _ _ (λ e. front_literal b bs (quote_is b e))
     (λ _. choice (b ∷ bs) (begins_number (b ∷ bs)) _ _ (λ e. front_number b bs e)

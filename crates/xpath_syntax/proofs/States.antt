@@ -38,12 +38,12 @@ wide-is : (b : Bool) (p : Path) (before : List Step) (x : Step) → with_step (w
 wide-is true p before x = ap (λ l. record { start = p.start; steps = l }) (append_assoc (p.steps ++ before) (any_descendant ∷ []) (x ∷ []) ∙ append_assoc p.steps before (any_descendant ∷ x ∷ []))
 wide-is false p before x = ap (λ l. record { start = p.start; steps = l }) (append_assoc p.steps before (x ∷ []))
 
-behind_slash-push : (xs : List (Bool × Stepped)) (x : Bool × Stepped) → behind_slash (xs ++ x ∷ []) ≡ behind_slash xs ++ slash x.0 ∷ x.1.tokens
+pub behind_slash-push : (xs : List (Bool × Stepped)) (x : Bool × Stepped) → behind_slash (xs ++ x ∷ []) ≡ behind_slash xs ++ slash x.0 ∷ x.1.tokens
 behind_slash-push [] x = ap (λ l. slash x.0 ∷ l) (append-nil x.1.tokens)
 behind_slash-push (y ∷ ys) x =
     ap (λ l. slash y.0 ∷ l) (ap (λ l. y.1.tokens ++ l) (behind_slash-push ys x) ∙ sym (append_assoc y.1.tokens (behind_slash ys) (slash x.0 ∷ x.1.tokens)))
 
-steps_behind-push : (xs : List (Bool × Stepped)) (x : Bool × Stepped) → steps_behind (xs ++ x ∷ []) ≡ steps_behind xs ++ (widened x.0 ++ x.1.step ∷ [])
+pub steps_behind-push : (xs : List (Bool × Stepped)) (x : Bool × Stepped) → steps_behind (xs ++ x ∷ []) ≡ steps_behind xs ++ (widened x.0 ++ x.1.step ∷ [])
 steps_behind-push [] x = refl
 steps_behind-push (y ∷ ys) x =
     ap (λ l. widened y.0 ++ (y.1.step ∷ l)) (steps_behind-push ys x) ∙ sym (append_assoc (widened y.0) (y.1.step ∷ steps_behind ys) (widened x.0 ++ x.1.step ∷ []))

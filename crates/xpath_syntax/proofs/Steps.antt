@@ -336,10 +336,10 @@ arguments-push [] p = refl
 arguments-push (q ∷ []) p = sym (append_assoc q.tokens (symbol.Comma ∷ []) p.tokens)
 arguments-push (q ∷ r ∷ rs) p = ap (λ l. q.tokens ++ symbol.Comma ∷ l) (arguments-push (r ∷ rs) p) ∙ sym (append_assoc q.tokens (symbol.Comma ∷ ended (r ∷ rs)) p.tokens)
 
-trees-push : (given : List Part) (p : Part) → trees (given ++ p ∷ []) ≡ trees given ++ p.tree ∷ []
+pub trees-push : (given : List Part) (p : Part) → trees (given ++ p ∷ []) ≡ trees given ++ p.tree ∷ []
 trees-push given p = map-append (λ (q : Part). q.tree) given (p ∷ [])
 
-bracketed-push : (given : List Part) (p : Part) → bracketed (given ++ p ∷ []) ≡ bracketed given ++ (symbol.OpenBracket ∷ (p.tokens ++ symbol.CloseBracket ∷ []))
+pub bracketed-push : (given : List Part) (p : Part) → bracketed (given ++ p ∷ []) ≡ bracketed given ++ (symbol.OpenBracket ∷ (p.tokens ++ symbol.CloseBracket ∷ []))
 bracketed-push [] p = refl
 bracketed-push (q ∷ qs) p =
     ap (λ l. symbol.OpenBracket ∷ (q.tokens ++ symbol.CloseBracket ∷ l)) (bracketed-push qs p)

@@ -59,3 +59,6 @@ number_read digits r h all few =
   where
     at_most : (n : ℕ) → n ≤ 15 → nat_le n 15 ≡ true
     at_most n le = grind (arith, nat_tests)
+
+pub digits_low : (digits : List ℕ) → list_all is_digit digits ≡ true → length digits ≤ 15 → digits_value 10 digits < 1000000000000000
+digits_low digits e few = digits_value_short own digits 15 (are_digits digits e) few

@@ -236,7 +236,3 @@ IsExprIn (suc depth) whole = IsOr (IsExprIn depth) whole
 -- [14] the tokens are an expression, and this is its tree
 abbrev pub IsExpr : List Symbol → Expr → Type 0
 IsExpr tokens tree = (depth : ℕ) × IsExprIn depth (part tokens tree)
-
--- an expression can begin with these tokens
-abbrev pub BeginsExpr : List Symbol → Type 0
-BeginsExpr tokens = (more : List Symbol) × (tree : Expr) × IsExpr (tokens ++ more) tree

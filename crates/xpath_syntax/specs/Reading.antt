@@ -1,27 +1,48 @@
--- What it is to read an expression, and its first fault.
-use Rattle.std.specs.Prelude.{◌≡◌, ◌⊎◌, ℕ, List, Some, None, Result, Ok, Err}
+-- What it is to read an expression or a pattern, and its first fault.
+use Rattle.std.specs.Prelude.{◌≡◌, ◌⊎◌, ℕ, List, Option, Some, None, Result, Ok, Err}
 use Rattle.serna_kinds.specs.Names.{NameParts, Space, Grows}
 use Rattle.xpath_syntax.specs.declared.expr.Expr.{Expr}
+use Rattle.xpath_syntax.specs.declared.pattern.Pattern.{Pattern}
+use Rattle.xpath_syntax.specs.declared.symbol.Symbol.{Symbol}
 use Rattle.xpath_syntax.specs.declared.tokens.Token.{Token}
 use Rattle.xpath_syntax.specs.declared.faults.ExprRule.{ExprRule}
 use Rattle.xpath_syntax.specs.declared.reader.ExprFault.{ExprFault}
 use Rattle.xpath_syntax.specs.declared.reader.ExprFault.TheVariants as fault
 use Rattle.xpath_syntax.specs.Tokens.{tokens_of}
 use Rattle.xpath_syntax.specs.Symbols.{symbols_at}
-use Rattle.xpath_syntax.specs.Stops.{HasTree, IsStop}
+use Rattle.xpath_syntax.specs.Grammar.{IsExpr}
+use Rattle.xpath_syntax.specs.Patterns.{IsPattern}
+use Rattle.xpath_syntax.specs.Stops.{HasTreeBy, IsStopBy}
 use Rattle.xpath_syntax.specs.Faults.{fault_among, fault_before}
+use Rattle.xpath_syntax.specs.PatternFaults.{pattern_fault_among, pattern_fault_before}
+
+-- By a grammar, and by the first of the faults of tokens besides 20
 
 -- the tokens have this tree and no fault
-pub record HasReading (spaces : List Space) (names : List NameParts) (text : List ℕ) (tokens : List Token) (tree : Expr) : Type 0 where
-  pub has : HasTree (symbols_at spaces names text tokens) tree
-  pub faultless : fault_among spaces text tokens ≡ None
+pub record HasReadingBy {T : Type 0} (Is : List Symbol → T → Type 0) (among : Option (ExprRule × ℕ)) (symbols : List Symbol) (tree : T) : Type 0 where
+  pub has : HasTreeBy Is symbols tree
+  pub faultless : among ≡ None
 
--- The first fault of the tokens: no expression can go on with one of them, and there or before it stands the fault, or they are
--- an expression, and it is the first fault of its functions, numbers and prefixes.
+-- The first fault of the tokens: no tree's tokens can go on with one of them, and there or before it stands the fault, or they
+-- have a tree, and it is the first fault of their functions, numbers and prefixes.
+abbrev pub HasFaultBy : {T : Type 0} → (List Symbol → T → Type 0) → Option (ExprRule × ℕ) → (ℕ → ExprRule × ℕ) → List Symbol → ExprRule → ℕ → Type 0
+HasFaultBy {T} Is among before symbols rule place =
+    ((k : ℕ) × IsStopBy Is symbols k × (before k ≡ (rule, place)))
+    ⊎ ((tree : T) × HasTreeBy Is symbols tree × (among ≡ Some (rule, place)))
+
+-- what reading answers, with the table that it leaves
+abbrev pub IsReadBy : {T : Type 0} → (List NameParts → T → Type 0) → (ExprRule → ℕ → Type 0) → List NameParts → Result T ExprFault → Type 0
+IsReadBy HasReading HasFault names (Ok tree) = (later : List NameParts) → Grows names later → HasReading later tree
+IsReadBy HasReading HasFault names (Err (fault.Refused rule place)) = HasFault rule place
+IsReadBy HasReading HasFault names (Err fault.NoMemory) = Unit {0}
+
+-- Expressions
+
+abbrev pub HasReading : List Space → List NameParts → List ℕ → List Token → Expr → Type 0
+HasReading spaces names text tokens = HasReadingBy IsExpr (fault_among spaces text tokens) (symbols_at spaces names text tokens)
+
 abbrev pub HasFault : List Space → List NameParts → List ℕ → List Token → ExprRule → ℕ → Type 0
-HasFault spaces names text tokens rule place =
-    ((k : ℕ) × IsStop (symbols_at spaces names text tokens) k × (fault_before spaces text tokens k ≡ (rule, place)))
-    ⊎ ((tree : Expr) × HasTree (symbols_at spaces names text tokens) tree × (fault_among spaces text tokens ≡ Some (rule, place)))
+HasFault spaces names text tokens = HasFaultBy IsExpr (fault_among spaces text tokens) (fault_before spaces text tokens) (symbols_at spaces names text tokens)
 
 -- the text is an expression without fault, and this is its tree, with the numbers that names have in this table
 abbrev pub IsReading : List Space → List NameParts → List ℕ → Expr → Type 0
@@ -33,6 +54,25 @@ IsFirstFault spaces names text rule place = HasFault spaces names text (tokens_o
 
 -- what reading tokens answers, with the table that it leaves
 abbrev pub IsRead : List Space → List NameParts → List ℕ → List Token → Result Expr ExprFault → Type 0
-IsRead spaces names text tokens (Ok tree) = (later : List NameParts) → Grows names later → HasReading spaces later text tokens tree
-IsRead spaces names text tokens (Err (fault.Refused rule place)) = HasFault spaces names text tokens rule place
-IsRead spaces names text tokens (Err fault.NoMemory) = Unit {0}
+IsRead spaces names text tokens = IsReadBy (λ later. HasReading spaces later text tokens) (HasFault spaces names text tokens) names
+
+-- Patterns
+
+abbrev pub HasPatternReading : List Space → List NameParts → List ℕ → List Token → Pattern → Type 0
+HasPatternReading spaces names text tokens = HasReadingBy IsPattern (pattern_fault_among spaces text tokens) (symbols_at spaces names text tokens)
+
+abbrev pub HasPatternFault : List Space → List NameParts → List ℕ → List Token → ExprRule → ℕ → Type 0
+HasPatternFault spaces names text tokens =
+    HasFaultBy IsPattern (pattern_fault_among spaces text tokens) (pattern_fault_before spaces text tokens) (symbols_at spaces names text tokens)
+
+-- the text is a pattern without fault, and this is its tree, with the numbers that names have in this table
+abbrev pub IsPatternReading : List Space → List NameParts → List ℕ → Pattern → Type 0
+IsPatternReading spaces names text pattern = HasPatternReading spaces names text (tokens_of text) pattern
+
+-- the first fault of a text, read as a pattern
+abbrev pub IsFirstPatternFault : List Space → List NameParts → List ℕ → ExprRule → ℕ → Type 0
+IsFirstPatternFault spaces names text rule place = HasPatternFault spaces names text (tokens_of text) rule place
+
+-- what reading tokens as a pattern answers, with the table that it leaves
+abbrev pub IsPatternRead : List Space → List NameParts → List ℕ → List Token → Result Pattern ExprFault → Type 0
+IsPatternRead spaces names text tokens = IsReadBy (λ later. HasPatternReading spaces later text tokens) (HasPatternFault spaces names text tokens) names

@@ -1,11 +1,15 @@
--- How far a list of tokens can be read as an expression.
-use Rattle.std.specs.Prelude.{◌≤◌, ◌<◌, ℕ, suc, pred, List, [], ◌∷◌, take, length}
+-- How far a list of tokens can be read, as an expression or as a pattern.
+use Rattle.std.specs.Prelude.{◌≤◌, ◌<◌, ℕ, suc, pred, List, [], ◌∷◌, ◌++◌, take, length}
 use Rattle.xpath_syntax.specs.declared.expr.Expr.{Expr}
+use Rattle.xpath_syntax.specs.declared.pattern.Pattern.{Pattern}
 use Rattle.xpath_syntax.specs.declared.symbol.Symbol.{Symbol}
 use Rattle.xpath_syntax.specs.declared.symbol.Symbol.TheVariants as symbol
 use Rattle.xpath_syntax.specs.declared.parse.Parsed.{Parsed}
 use Rattle.xpath_syntax.specs.declared.parse.Parsed.TheVariants as parsed
-use Rattle.xpath_syntax.specs.Grammar.{IsExpr, BeginsExpr}
+use Rattle.xpath_syntax.specs.declared.pattern_parse.ParsedPattern.{ParsedPattern}
+use Rattle.xpath_syntax.specs.declared.pattern_parse.ParsedPattern.TheVariants as parsed_pattern
+use Rattle.xpath_syntax.specs.Grammar.{IsExpr}
+use Rattle.xpath_syntax.specs.Patterns.{IsPattern}
 
 -- how many brackets are open behind a token
 abbrev pub next_depth : ℕ → Symbol → ℕ
@@ -23,22 +27,57 @@ IsShallowFrom open_now (t ∷ ts) = (next_depth open_now t ≤ 64) × IsShallowF
 abbrev pub IsShallow : List Symbol → Type 0
 IsShallow = IsShallowFrom 0
 
+-- By a grammar, which says which tokens stand for which tree
+
+-- the tokens have this tree, within the limit
+abbrev pub HasTreeBy : {T : Type 0} → (List Symbol → T → Type 0) → List Symbol → T → Type 0
+HasTreeBy Is tokens tree = Is tokens tree × IsShallow tokens
+
+-- the tokens of a tree can begin with these
+abbrev pub BeginsBy : {T : Type 0} → (List Symbol → T → Type 0) → List Symbol → Type 0
+BeginsBy {T} Is tokens = (more : List Symbol) × (tree : T) × Is (tokens ++ more) tree
+
+-- the same, within the limit
+abbrev pub CanGoOnBy : {T : Type 0} → (List Symbol → T → Type 0) → List Symbol → Type 0
+CanGoOnBy Is tokens = BeginsBy Is tokens × IsShallow tokens
+
+-- Token number k, from 0, is the first with which no tree's tokens can go on; where there are only k tokens, they end too early.
+pub record IsStopBy {T : Type 0} (Is : List Symbol → T → Type 0) (tokens : List Symbol) (k : ℕ) : Type 0 where
+  pub within : k ≤ length tokens
+  pub before : CanGoOnBy Is (take k tokens)
+  pub stuck : k < length tokens → CanGoOnBy Is (take (suc k) tokens) → ⊥
+  pub none : (tree : T) → HasTreeBy Is tokens tree → ⊥
+
+-- Expressions
+
 -- the tokens are an expression within the limit, and this is its tree
 abbrev pub HasTree : List Symbol → Expr → Type 0
-HasTree tokens tree = IsExpr tokens tree × IsShallow tokens
+HasTree = HasTreeBy IsExpr
 
 -- an expression can begin with these tokens
 abbrev pub CanGoOn : List Symbol → Type 0
-CanGoOn tokens = BeginsExpr tokens × IsShallow tokens
+CanGoOn = CanGoOnBy IsExpr
 
--- Token number k, from 0, is the first with which no expression can go on; where there are only k tokens, they end too early.
-pub record IsStop (tokens : List Symbol) (k : ℕ) : Type 0 where
-  pub within : k ≤ length tokens
-  pub before : CanGoOn (take k tokens)
-  pub stuck : k < length tokens → CanGoOn (take (suc k) tokens) → ⊥
-  pub none : (tree : Expr) → HasTree tokens tree → ⊥
+-- the first token with which no expression can go on
+abbrev pub IsStop : List Symbol → ℕ → Type 0
+IsStop = IsStopBy IsExpr
 
 -- what reading the tokens gives
 abbrev pub IsParsed : List Symbol → Parsed → Type 0
 IsParsed tokens (parsed.Tree tree) = HasTree tokens tree
 IsParsed tokens (parsed.Stop k) = IsStop tokens k
+
+-- Patterns
+
+-- the tokens are this pattern, within the limit
+abbrev pub HasPattern : List Symbol → Pattern → Type 0
+HasPattern = HasTreeBy IsPattern
+
+-- the first token with which no pattern can go on
+abbrev pub IsPatternStop : List Symbol → ℕ → Type 0
+IsPatternStop = IsStopBy IsPattern
+
+-- what reading the tokens gives
+abbrev pub IsParsedPattern : List Symbol → ParsedPattern → Type 0
+IsParsedPattern tokens (parsed_pattern.Pattern pattern) = HasPattern tokens pattern
+IsParsedPattern tokens (parsed_pattern.Stop k) = IsPatternStop tokens k

@@ -163,7 +163,7 @@ fn function_fault(function: Option<Function>, behind: &[Token]) -> Option<ExprRu
 }
 
 /// A name before `(`, with the tokens behind it.
-fn callee_fault(name: &str, behind: &[Token]) -> Option<ExprRule>
+pub fn callee_fault(name: &str, behind: &[Token]) -> Option<ExprRule>
     ensures { result ≡ callee_fault name.now behind.now }
 {
     if is_node_type(name) {
@@ -194,7 +194,7 @@ fn prefix_fault(spaces: &Spaces, name: &str) -> Option<ExprRule>
 }
 
 /// The fault of a token of this kind that is written so, with the tokens behind it.
-fn fault_at(spaces: &Spaces, kind: Kind, written: &str, behind: &[Token]) -> Option<ExprRule>
+pub fn fault_at(spaces: &Spaces, kind: Kind, written: &str, behind: &[Token]) -> Option<ExprRule>
     ensures { result ≡ fault_at spaces.now kind written.now behind.now }
 {
     match kind {

@@ -12,7 +12,7 @@ use crate::symbol::Symbol;
 use std::alloc::Global;
 
 /// The most `(` and `[` that may be open at once.
-const MOST_OPEN: usize = 64;
+pub const MOST_OPEN: usize = 64;
 
 /// What a list of tokens is.
 #[derive(Drop)]
@@ -24,7 +24,7 @@ pub enum Parsed {
 }
 
 /// How many brackets are open behind a token.
-fn next_depth(depth: usize, symbol: &Symbol) -> usize
+pub fn next_depth(depth: usize, symbol: &Symbol) -> usize
     requires { depth ≤ 64 }
     ensures { result ≡ next_depth depth symbol.now }
 {

@@ -1,13 +1,14 @@
 //! Reads an expression from its text.
 
-ghost use Rattle.std.specs.Prelude.{◌≡◌, ◌≤◌, ℕ, List, length, IfOk, IfErr, MatchResult};
+ghost use Rattle.std.specs.Prelude.{◌≡◌, ◌≤◌, ℕ, List, length, IfOk, IfErr, OnOk, MatchResult};
 ghost use Rattle.std.specs.List.{AllByRecursion};
 ghost use Rattle.serna_kinds.specs.Names.{NameParts, Grows};
 ghost use Rattle.xpath_syntax.specs.declared.expr.Expr.{Expr};
 ghost use Rattle.xpath_syntax.specs.declared.faults.ExprRule.{ExprRule};
-ghost use Rattle.xpath_syntax.specs.Tokens.{IsCut};
+ghost use Rattle.xpath_syntax.specs.Tokens.{IsCut, tokens_of};
 ghost use Rattle.xpath_syntax.specs.Faults.{place_of, fault_before};
 ghost use Rattle.xpath_syntax.specs.Reading.{IsReading, IsFirstFault, IsRead};
+ghost use Rattle.xpath_syntax.specs.Writable.{HasNames};
 
 use crate::NoMemory;
 use crate::expr::Expr;
@@ -36,7 +37,7 @@ impl From<NoMemory> for ExprFault {
 }
 
 /// The place of a token, or the length of the text behind the last one.
-fn place_of(text: &str, tokens: &[Token], count: usize) -> usize
+pub fn place_of(text: &str, tokens: &[Token], count: usize) -> usize
     ensures { result ≡ place_of text.now tokens.now count }
 {
     match tokens.get(count) {
@@ -67,6 +68,7 @@ fn read_tokens(
 ) -> Result<Expr, ExprFault>
     requires { AllByRecursion (IsCut text.now) tokens.now }
     ensures read { IsRead spaces.now names.new text.now tokens.now result }
+    ensures named { OnOk result ((later : List NameParts) → Grows names.new later → HasNames spaces.now later text.now tokens.now) }
     ensures names { Grows names.old names.new }
 {
     let symbols = symbols_at(alloc, text, tokens, spaces, names)?;
@@ -92,6 +94,8 @@ pub fn read_expr(
 ) -> Result<Expr, ExprFault>
     // The tree is the text's, with the numbers that names have in the new table and in every one that grows from it.
     ensures tree { IfOk result (λ tree. (later : List NameParts) → Grows names.new later → IsReading spaces.now later text.now tree) }
+    // So each such table has the names of the text.
+    ensures named { OnOk result ((later : List NameParts) → Grows names.new later → HasNames spaces.now later text.now (tokens_of text.now)) }
     // A text with a tree and no fault is read, unless memory runs out, and it has no other tree.
     ensures only { (tree : Expr) → IsReading spaces.now names.new text.now tree → MatchResult result (λ e. e ≡ tree) (λ fault. fault ≡ ExprFault.NoMemory) }
     // A fault is the first one of the text.

@@ -36,7 +36,7 @@ fn is_minus(op: Operator) -> bool
     }
 }
 
-fn is_open(symbol: &Symbol) -> bool
+pub fn is_open(symbol: &Symbol) -> bool
     ensures { result ≡ is_open symbol.now }
 {
     match symbol {
@@ -45,7 +45,7 @@ fn is_open(symbol: &Symbol) -> bool
     }
 }
 
-fn is_close(symbol: &Symbol) -> bool
+pub fn is_close(symbol: &Symbol) -> bool
     ensures { result ≡ is_close symbol.now }
 {
     match symbol {
@@ -54,7 +54,7 @@ fn is_close(symbol: &Symbol) -> bool
     }
 }
 
-fn is_colons(symbol: &Symbol) -> bool
+pub fn is_colons(symbol: &Symbol) -> bool
     ensures { result ≡ is_colons symbol.now }
 {
     match symbol {
@@ -322,7 +322,7 @@ fn with_predicate(operand: Operand, tree: Expr) -> Result<Option<Operand>, NoMem
 }
 
 /// A `]` behind an operand that is put together.
-fn end_predicate(tree: Expr, mut stack: Stack<Pending>) -> Result<Option<State>, NoMemory>
+pub fn end_predicate(tree: Expr, mut stack: Stack<Pending>) -> Result<Option<State>, NoMemory>
     ensures { IfOk result (λ next. next ≡ end_predicate tree stack) }
 {
     match stack.pop() {
@@ -410,7 +410,7 @@ fn after_operator(
 }
 
 /// The tree of an operand that ends here, with all that waits for it.
-fn put_together(
+pub fn put_together(
     alloc: Global,
     operand: Operand,
     stack: &mut Stack<Pending>,

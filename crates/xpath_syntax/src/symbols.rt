@@ -1,10 +1,11 @@
 //! The tokens of a text as the grammar sees them.
 
-ghost use Rattle.std.specs.Prelude.{◌≡◌, List, IfOk};
+ghost use Rattle.std.specs.Prelude.{◌≡◌, List, IfOk, OnOk};
 ghost use Rattle.std.specs.List.{AllByRecursion};
 ghost use Rattle.serna_kinds.specs.Names.{NameParts, Grows};
 ghost use Rattle.xpath_syntax.specs.Tokens.{IsCut};
 ghost use Rattle.xpath_syntax.specs.Symbols.{written_at, symbols_at};
+ghost use Rattle.xpath_syntax.specs.Writable.{HasNames};
 
 use crate::NoMemory;
 use crate::state::Stack;
@@ -34,6 +35,7 @@ pub fn symbols_at(
 ) -> Result<Stack<Symbol>, NoMemory>
     requires { AllByRecursion (IsCut text.now) tokens.now }
     ensures symbols { IfOk result (λ symbols. (later : List NameParts) → Grows names.new later → symbols ≡ symbols_at spaces.now later text.now tokens.now) }
+    ensures named { OnOk result ((later : List NameParts) → Grows names.new later → HasNames spaces.now later text.now tokens.now) }
     ensures grows { Grows names.old names.new }
 {
     let mut symbols = Stack::new(alloc);

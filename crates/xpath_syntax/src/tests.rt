@@ -1,5 +1,5 @@
-use crate::{Expr, ExprFault, ExprRule, read_expr};
-use serna_kinds::{NameTable, Spaces};
+use crate::{Expr, ExprFault, ExprRule, read_expr, write_expr};
+use serna_kinds::{Chars, NameTable, Spaces};
 use std::test::Fail;
 
 /// The rule, from 20, and the place of the first fault; 0 and 0 where there is none.
@@ -14,7 +14,7 @@ fn fault_of(rt: &HostRuntime, text: &str) -> Result<(u8, usize), Fail> {
     }
 }
 
-fn number_of(rule: ExprRule) -> u8 {
+pub fn number_of(rule: ExprRule) -> u8 {
     match rule {
         ExprRule::Syntax => 20,
         ExprRule::UnknownFunction => 21,
@@ -89,7 +89,7 @@ fn reads_expressions(rt: HostRuntime) -> Result<(), Fail> {
 }
 
 /// A text made of so many copies of a part.
-fn repeated(rt: &HostRuntime, part: &str, times: usize) -> Result<String, Fail> {
+pub fn repeated(rt: &HostRuntime, part: &str, times: usize) -> Result<String, Fail> {
     let mut text = String::new(rt.alloc());
     for _ in 0..times {
         text.push_str(part)?;
@@ -106,5 +106,51 @@ fn reads_long_chains_and_refuses_deep_brackets(rt: HostRuntime) -> Result<(), Fa
     let found = fault_of(&rt, deep.as_str())?;
     assert_eq!(rt; found.0, 20);
     assert_eq!(rt; found.1, 64);
+    Ok(())
+}
+
+/// The text of an expression that is read from a text; empty where the text is none.
+fn written(rt: &HostRuntime, text: &str) -> Result<Chars, Fail> {
+    let mut names = NameTable::new(rt.alloc());
+    let mut spaces = Spaces::new(rt.alloc());
+    spaces.declare(rt.alloc(), "p", "u")?;
+    match read_expr(rt.alloc(), text, &spaces, &mut names) {
+        Ok(expr) => Ok(write_expr(rt.alloc(), &expr, &spaces, &names)?),
+        Err(_) => Ok(Chars::new(rt.alloc())),
+    }
+}
+
+/// Expressions, each with its canonical text.
+const WRITTEN: &[(&str, &str)] = &[
+    ("-7 mod 2 = -1", "- 7 mod 2 = - 1 "),
+    ("(a or b) and c", "( a or b ) and c "),
+    ("a or (b and c)", "a or b and c "),
+    ("a/descendant-or-self::node()/@b", "a // @ b "),
+    (
+        "//descendant-or-self::node()/..",
+        "// descendant-or-self :: node ( ) / .. ",
+    ),
+    ("self::node()[p:x]", "self :: node ( ) [ p:x ] "),
+    ("child::p:*/.", "p:* / . "),
+    ("(/) or / = (/)*1", "( / ) or / = ( / ) * 1 "),
+    (
+        "(a|b)[1]/c | ((d)[2])[3]",
+        "( a | b ) [ 1 ] / c | ( ( d ) [ 2 ] ) [ 3 ] ",
+    ),
+    ("1 - (2 - 3) - - (- $p:v)", "1 - ( 2 - 3 ) - - ( - $p:v ) "),
+    (
+        "concat('\"',\"'\", count(text()))",
+        "concat ( '\"' , \"'\" , count ( text ( ) ) ) ",
+    ),
+];
+
+#[test]
+fn writes_what_reads_back(rt: HostRuntime) -> Result<(), Fail> {
+    for (text, wanted) in WRITTEN {
+        let once = written(&rt, text)?;
+        assert_eq!(rt; once.as_text(), *wanted, "{text}");
+        let twice = written(&rt, once.as_text())?;
+        assert_eq!(rt; twice.as_text(), *wanted, "{text}");
+    }
     Ok(())
 }

@@ -1,12 +1,13 @@
 //! What a token that is written out stands for.
 
-ghost use Rattle.std.specs.Prelude.{◌≡◌, ◌<◌, List, IfOk, option_map, is_some};
+ghost use Rattle.std.specs.Prelude.{◌≡◌, ◌<◌, List, IfOk, OnOk, option_map, is_some};
 ghost use Rattle.std.specs.List.{list_all};
 ghost use Rattle.std.specs.Map.{lookup};
 ghost use Rattle.std.specs.Str.{bytes_eq};
 ghost use Rattle.serna_kinds.specs.Names.{NameParts, Grows, id_of};
 ghost use Rattle.xpath_syntax.specs.Tokens.{is_digit};
 ghost use Rattle.xpath_syntax.specs.Symbols.{parted, prefix_of, local_of, uri_in, name_in, without_dollar, text_or_none, inside, number_value, node_types, axes, plain_functions, text_functions, function_named, callee, axis_named, mark_symbol, symbol_of};
+ghost use Rattle.xpath_syntax.specs.Writable.{IsStored, HasName};
 
 use crate::NoMemory;
 use crate::expr::{ArithOp, Expr, Function};
@@ -43,7 +44,7 @@ fn local_of(name: &str) -> &str
 }
 
 /// The URI that a prefix is bound to, empty where it is not bound.
-fn uri_in<'a>(spaces: &'a Spaces, prefix: &str) -> &'a str
+pub fn uri_in<'a>(spaces: &'a Spaces, prefix: &str) -> &'a str
     ensures { result.now ≡ uri_in spaces.now prefix.now }
 {
     if prefix.is_empty() {
@@ -63,6 +64,7 @@ fn intern(
     names: &mut NameTable,
 ) -> Result<NameId, NoMemory>
     ensures number { IfOk result (λ id. (later : List NameParts) → Grows names.new later → id ≡ id_of later (name_in spaces.now name.now)) }
+    ensures stored { OnOk result ((later : List NameParts) → Grows names.new later → IsStored later (name_in spaces.now name.now)) }
     ensures grows { Grows names.old names.new }
 {
     let prefix = prefix_of(name);
@@ -281,6 +283,7 @@ pub fn symbol_of(
     names: &mut NameTable,
 ) -> Result<Symbol, NoMemory>
     ensures symbol { IfOk result (λ s. (later : List NameParts) → Grows names.new later → s ≡ symbol_of spaces.now later kind written.now) }
+    ensures named { OnOk result ((later : List NameParts) → Grows names.new later → HasName spaces.now later kind written.now) }
     ensures grows { Grows names.old names.new }
 {
     match kind {

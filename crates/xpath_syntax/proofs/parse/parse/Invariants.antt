@@ -1,4 +1,5 @@
-use Rattle.std.proofs.Common.{◌≤◌, length}
+use Rattle.std.proofs.Common.{◌≤◌, Some, length}
+use Rattle.xpath_syntax.specs.Machine.{beginning, run}
 use Rattle.xpath_syntax.proofs.Stopping.{Standing}
 use Rattle.xpath_syntax.proofs.parse.parse.Given as goal
 
@@ -6,7 +7,7 @@ abbrev pub invariant-loop-symbol : goal.invariant-loop-symbol
 invariant-loop-symbol l = record {
   shallow : l.reader.depth ≤ 64;
   few : l.count ≤ length l.fn.symbols;
-  stands : Standing l.fn.symbols l.count l.symbols l.reader;
+  stands : Standing (run (Some beginning)) l.fn.symbols l.count l.symbols l.reader.state l.reader.depth;
 }
 
 abbrev pub decreases-loop-symbol : goal.decreases-loop-symbol

@@ -1,25 +1,47 @@
-use Rattle.std.proofs.Common.{◌∙◌, subst}
+use Rattle.std.proofs.Common.{◌∙◌, List, OnOk, subst}
+use Rattle.serna_kinds.specs.Names.{NameParts, Grows}
+use Rattle.xpath_syntax.specs.Faults.{fault_among, fault_before}
+use Rattle.xpath_syntax.specs.Grammar.{IsExpr}
+use Rattle.xpath_syntax.specs.Reading.{HasReading, HasFault, IsRead}
+use Rattle.xpath_syntax.specs.Symbols.{symbols_of}
 use Rattle.xpath_syntax.specs.Tokens.{tokens_of}
-use Rattle.xpath_syntax.specs.Reading.{IsRead}
+use Rattle.xpath_syntax.specs.Writable.{HasNames}
 use Rattle.xpath_syntax.proofs.Answering.{tree_read, only_reading, first_fault, only_fault}
+use Rattle.xpath_syntax.proofs.Completeness.{one_expr}
 use Rattle.xpath_syntax.proofs.reader.read_expr.Goals as goal
 
 pub returns-clause-tree : goal.returns-clause-tree
 returns-clause-tree c =
-    tree_read c.args.spaces.now c.read_tokens.new.names c.args.text.now (tokens_of c.args.text.now) c.read_tokens.result
-    (subst (λ tokens. IsRead c.args.spaces.now c.read_tokens.new.names c.args.text.now tokens c.read_tokens.result) (c.as_slice.ensures ∙ c.in_ok-tokens.ensures.value) c.read_tokens.ensures.read)
+    let spaces = c.args.spaces.now in
+    let names = c.read_tokens.new.names in
+    let text = c.args.text.now in
+    tree_read (λ later. HasReading spaces later text (tokens_of text)) (HasFault spaces names text (tokens_of text)) names c.read_tokens.result
+    (subst (λ tokens. IsRead spaces names text tokens c.read_tokens.result) (c.as_slice.ensures ∙ c.in_ok-tokens.ensures.value) c.read_tokens.ensures.read)
 
 pub returns-clause-only : goal.returns-clause-only
 returns-clause-only c =
-    only_reading c.args.spaces.now c.read_tokens.new.names c.args.text.now (tokens_of c.args.text.now) c.read_tokens.result
-    (subst (λ tokens. IsRead c.args.spaces.now c.read_tokens.new.names c.args.text.now tokens c.read_tokens.result) (c.as_slice.ensures ∙ c.in_ok-tokens.ensures.value) c.read_tokens.ensures.read)
+    let spaces = c.args.spaces.now in
+    let names = c.read_tokens.new.names in
+    let text = c.args.text.now in
+    only_reading IsExpr one_expr (fault_among spaces text (tokens_of text)) (fault_before spaces text (tokens_of text)) (λ (later : List NameParts). symbols_of spaces later text) names c.read_tokens.result
+    (subst (λ tokens. IsRead spaces names text tokens c.read_tokens.result) (c.as_slice.ensures ∙ c.in_ok-tokens.ensures.value) c.read_tokens.ensures.read)
 
 pub returns-clause-fault : goal.returns-clause-fault
 returns-clause-fault c =
-    first_fault c.args.spaces.now c.read_tokens.new.names c.args.text.now (tokens_of c.args.text.now) c.read_tokens.result
-    (subst (λ tokens. IsRead c.args.spaces.now c.read_tokens.new.names c.args.text.now tokens c.read_tokens.result) (c.as_slice.ensures ∙ c.in_ok-tokens.ensures.value) c.read_tokens.ensures.read)
+    let spaces = c.args.spaces.now in
+    let names = c.read_tokens.new.names in
+    let text = c.args.text.now in
+    first_fault (λ later. HasReading spaces later text (tokens_of text)) (HasFault spaces names text (tokens_of text)) names c.read_tokens.result
+    (subst (λ tokens. IsRead spaces names text tokens c.read_tokens.result) (c.as_slice.ensures ∙ c.in_ok-tokens.ensures.value) c.read_tokens.ensures.read)
 
 pub returns-clause-refused : goal.returns-clause-refused
 returns-clause-refused c =
-    only_fault c.args.spaces.now c.read_tokens.new.names c.args.text.now (tokens_of c.args.text.now) c.read_tokens.result
-    (subst (λ tokens. IsRead c.args.spaces.now c.read_tokens.new.names c.args.text.now tokens c.read_tokens.result) (c.as_slice.ensures ∙ c.in_ok-tokens.ensures.value) c.read_tokens.ensures.read)
+    let spaces = c.args.spaces.now in
+    let names = c.read_tokens.new.names in
+    let text = c.args.text.now in
+    only_fault IsExpr one_expr (fault_among spaces text (tokens_of text)) (fault_before spaces text (tokens_of text)) (λ (later : List NameParts). symbols_of spaces later text) names c.read_tokens.result
+    (subst (λ tokens. IsRead spaces names text tokens c.read_tokens.result) (c.as_slice.ensures ∙ c.in_ok-tokens.ensures.value) c.read_tokens.ensures.read)
+
+pub returns-clause-named : goal.returns-clause-named
+returns-clause-named c =
+    subst (λ tokens. OnOk c.read_tokens.result ((later : List NameParts) → Grows c.read_tokens.new.names later → HasNames c.args.spaces.now later c.args.text.now tokens)) (c.as_slice.ensures ∙ c.in_ok-tokens.ensures.value) c.read_tokens.ensures.named

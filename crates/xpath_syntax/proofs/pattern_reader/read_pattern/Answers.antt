@@ -1,0 +1,42 @@
+use Rattle.std.proofs.Common.{◌∙◌, List, subst}
+use Rattle.serna_kinds.specs.Names.{NameParts}
+use Rattle.xpath_syntax.specs.PatternFaults.{pattern_fault_among, pattern_fault_before}
+use Rattle.xpath_syntax.specs.Patterns.{IsPattern}
+use Rattle.xpath_syntax.specs.Reading.{HasPatternReading, HasPatternFault, IsPatternRead}
+use Rattle.xpath_syntax.specs.Symbols.{symbols_of}
+use Rattle.xpath_syntax.specs.Tokens.{tokens_of}
+use Rattle.xpath_syntax.proofs.Answering.{tree_read, only_reading, first_fault, only_fault}
+use Rattle.xpath_syntax.proofs.PatternReads.{one_pattern}
+use Rattle.xpath_syntax.proofs.pattern_reader.read_pattern.Goals as goal
+
+pub returns-clause-tree : goal.returns-clause-tree
+returns-clause-tree c =
+    let spaces = c.args.spaces.now in
+    let names = c.read_pattern_tokens.new.names in
+    let text = c.args.text.now in
+    tree_read (λ later. HasPatternReading spaces later text (tokens_of text)) (HasPatternFault spaces names text (tokens_of text)) names c.read_pattern_tokens.result
+    (subst (λ tokens. IsPatternRead spaces names text tokens c.read_pattern_tokens.result) (c.as_slice.ensures ∙ c.in_ok-tokens.ensures.value) c.read_pattern_tokens.ensures.read)
+
+pub returns-clause-only : goal.returns-clause-only
+returns-clause-only c =
+    let spaces = c.args.spaces.now in
+    let names = c.read_pattern_tokens.new.names in
+    let text = c.args.text.now in
+    only_reading IsPattern one_pattern (pattern_fault_among spaces text (tokens_of text)) (pattern_fault_before spaces text (tokens_of text)) (λ (later : List NameParts). symbols_of spaces later text) names c.read_pattern_tokens.result
+    (subst (λ tokens. IsPatternRead spaces names text tokens c.read_pattern_tokens.result) (c.as_slice.ensures ∙ c.in_ok-tokens.ensures.value) c.read_pattern_tokens.ensures.read)
+
+pub returns-clause-fault : goal.returns-clause-fault
+returns-clause-fault c =
+    let spaces = c.args.spaces.now in
+    let names = c.read_pattern_tokens.new.names in
+    let text = c.args.text.now in
+    first_fault (λ later. HasPatternReading spaces later text (tokens_of text)) (HasPatternFault spaces names text (tokens_of text)) names c.read_pattern_tokens.result
+    (subst (λ tokens. IsPatternRead spaces names text tokens c.read_pattern_tokens.result) (c.as_slice.ensures ∙ c.in_ok-tokens.ensures.value) c.read_pattern_tokens.ensures.read)
+
+pub returns-clause-refused : goal.returns-clause-refused
+returns-clause-refused c =
+    let spaces = c.args.spaces.now in
+    let names = c.read_pattern_tokens.new.names in
+    let text = c.args.text.now in
+    only_fault IsPattern one_pattern (pattern_fault_among spaces text (tokens_of text)) (pattern_fault_before spaces text (tokens_of text)) (λ (later : List NameParts). symbols_of spaces later text) names c.read_pattern_tokens.result
+    (subst (λ tokens. IsPatternRead spaces names text tokens c.read_pattern_tokens.result) (c.as_slice.ensures ∙ c.in_ok-tokens.ensures.value) c.read_pattern_tokens.ensures.read)

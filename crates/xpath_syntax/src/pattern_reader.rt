@@ -1,0 +1,87 @@
+//! Reads a pattern from its text.
+
+ghost use Rattle.std.specs.Prelude.{◌≡◌, ◌≤◌, ℕ, List, length, IfOk, IfErr, MatchResult};
+ghost use Rattle.std.specs.List.{AllByRecursion};
+ghost use Rattle.serna_kinds.specs.Names.{NameParts, Grows};
+ghost use Rattle.xpath_syntax.specs.declared.pattern.Pattern.{Pattern};
+ghost use Rattle.xpath_syntax.specs.declared.faults.ExprRule.{ExprRule};
+ghost use Rattle.xpath_syntax.specs.Tokens.{IsCut};
+ghost use Rattle.xpath_syntax.specs.PatternFaults.{pattern_fault_before};
+ghost use Rattle.xpath_syntax.specs.Reading.{IsPatternReading, IsFirstPatternFault, IsPatternRead};
+
+use crate::NoMemory;
+use crate::faults::ExprRule;
+use crate::pattern::Pattern;
+use crate::pattern_faults::pattern_fault_among;
+use crate::pattern_parse::{ParsedPattern, parse_pattern};
+use crate::reader::{ExprFault, place_of};
+use crate::symbols::symbols_at;
+use crate::tokens::{Token, tokens_of};
+use serna_kinds::{NameTable, Spaces};
+use std::alloc::Global;
+
+/// The first fault where no pattern can go on with the token of this number.
+fn pattern_fault_before(
+    spaces: &Spaces,
+    text: &str,
+    tokens: &[Token],
+    count: usize,
+) -> (ExprRule, usize)
+    requires within { count ≤ length tokens.now }
+    requires cut { AllByRecursion (IsCut text.now) tokens.now }
+    ensures { result ≡ pattern_fault_before spaces.now text.now tokens.now count }
+{
+    match pattern_fault_among(spaces, text, &tokens[..count]) {
+        Some(found) => found,
+        None => (ExprRule::Syntax, place_of(text, tokens, count)),
+    }
+}
+
+/// Reads the tokens of a text.
+fn read_pattern_tokens(
+    alloc: Global,
+    text: &str,
+    tokens: &[Token],
+    spaces: &Spaces,
+    names: &mut NameTable,
+) -> Result<Pattern, ExprFault>
+    requires { AllByRecursion (IsCut text.now) tokens.now }
+    ensures read { IsPatternRead spaces.now names.new text.now tokens.now result }
+    ensures names { Grows names.old names.new }
+{
+    let symbols = symbols_at(alloc, text, tokens, spaces, names)?;
+    match parse_pattern(alloc, symbols)? {
+        ParsedPattern::Pattern(pattern) => match pattern_fault_among(spaces, text, tokens) {
+            Some((rule, place)) => Err(ExprFault::Refused(rule, place)),
+            None => Ok(pattern),
+        },
+        ParsedPattern::Stop(count) => {
+            let (rule, place) = pattern_fault_before(spaces, text, tokens, count);
+            Err(ExprFault::Refused(rule, place))
+        }
+    }
+}
+
+/// Reads a pattern (XSLT 1.0, section 5.2, without `id( )` and `key( )`; its predicates are expressions as `read_expr` reads
+/// them, without `current( )`; at most 64 `(` and `[` are open at once). `text` is the whole of it, and places are bytes of it.
+/// Prefixes are those that `spaces` declares. The table gets names, also where the text has a fault.
+pub fn read_pattern(
+    alloc: Global,
+    text: &str,
+    spaces: &Spaces,
+    names: &mut NameTable,
+) -> Result<Pattern, ExprFault>
+    // The pattern is the text's, with the numbers that names have in the new table and in every one that grows from it.
+    ensures tree { IfOk result (λ pattern. (later : List NameParts) → Grows names.new later → IsPatternReading spaces.now later text.now pattern) }
+    // A text that is a pattern without fault is read, unless memory runs out, and it is no other pattern.
+    ensures only { (pattern : Pattern) → IsPatternReading spaces.now names.new text.now pattern → MatchResult result (λ p. p ≡ pattern) (λ fault. fault ≡ ExprFault.NoMemory) }
+    // A fault is the first one of the text.
+    ensures fault { IfErr result (λ fault. (rule : ExprRule) (place : ℕ) → fault ≡ ExprFault.Refused rule place → IsFirstPatternFault spaces.now names.new text.now rule place) }
+    // A text with a fault is refused, for that fault and no other.
+    ensures refused { (rule : ExprRule) (place : ℕ) → IsFirstPatternFault spaces.now names.new text.now rule place
+        → MatchResult result (λ _. ⊥) (λ fault. (r : ExprRule) (p : ℕ) → fault ≡ ExprFault.Refused r p → (r ≡ rule) × (p ≡ place)) }
+    ensures names { Grows names.old names.new }
+{
+    let tokens = tokens_of(alloc, text)?;
+    read_pattern_tokens(alloc, text, tokens.as_slice(), spaces, names)
+}
