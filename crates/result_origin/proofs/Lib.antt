@@ -1,0 +1,6 @@
+pub mod WalkLemmas
+pub mod EndsLemmas
+pub mod StoredLemmas
+pub mod ItemLemmas
+pub mod PartLemmas
+pub mod FilledLemmas
