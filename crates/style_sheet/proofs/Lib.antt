@@ -1,0 +1,4 @@
+pub mod Grown
+pub mod Running
+pub mod Told
+pub mod Saying
