@@ -14,6 +14,7 @@ pub use fragments::Fragments;
 pub use items::{Fragment, Item};
 pub use origin::Origin;
 pub use pages::{Face, Line, Page, Part, Run};
+pub use steps::{Step, Walk};
 
 #[cfg(test)]
 mod tests;

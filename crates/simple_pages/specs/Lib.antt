@@ -1,0 +1,4 @@
+pub mod Groups
+pub mod Pages
+pub mod Shown
+pub mod Laying
