@@ -1,0 +1,3 @@
+pub mod Bytes
+pub mod FirstLine
+pub mod Printed
