@@ -1,11 +1,11 @@
 #!/usr/bin/env python3
-"""Runs random documents and scripts on the program, and compares what it writes with what a model of the editor says.
+"""Runs random stylesheets, documents and scripts on the program, and compares what it writes with what a model of the editor says.
 
 The model here is written from the rules of the editor alone and shares nothing with the program. It is no part of the merge gate.
 Usage: random_scripts.py [--program PATH] [--commands show,at,type] [--count N] [--seed SEED]; without a program it is built by
 tests/build.sh. A command whose word is not among those named is expected to be refused as not built. The first difference is made
 smaller, printed with its seed, and ends the run with status 1."""
-import argparse, pathlib, random, re, subprocess, sys
+import argparse, collections, pathlib, random, re, subprocess, sys
 
 LONGEST_INPUT, DEEPEST = 16384, 120
 REFUSED = (b"input refused 1 NotBuilt\n", 3)
@@ -16,6 +16,10 @@ AT = re.compile(rb"at ([0-9]{1,9}) ([0-9]{1,9}) ([0-9]{1,9})")
 ALPHABET = "".join(chr(c) for c in range(32, 127)) + "\\\t\n"
 MEANT = {"\\\\": "\\", "\\n": "\n", "\\t": "\t"}
 XML = "http://www.w3.org/XML/1998/namespace"
+XSL = "http://www.w3.org/1999/XSL/Transform"
+FO = "http://www.w3.org/1999/XSL/Format"
+STYLE = re.compile(rb"!style ([!-~]+)")
+LINE_HEIGHT = 14400
 
 
 def meant(text):
@@ -33,6 +37,7 @@ class Node:
     """A node by its kind, "element", "text" or "comment"; the text is an element's name, or the characters of the others."""
     def __init__(self, number, kind, text):
         self.number, self.kind, self.text, self.children, self.attributes = number, kind, text, [], []
+        self.expanded = None  # an element's URI and local name
 
 
 def parted(line):
@@ -94,6 +99,7 @@ class Document:
         need(found and len(self.open) < DEEPEST and (self.open or not self.has_element) and self.uri(found[1]) is not None)
         self.has_element = True
         self.open.append(self.put("element", name))
+        self.open[-1].expanded = (self.spaces.get("", "") if found[1] is None else self.uri(found[1]), found[2])
 
     def attribute(self, line, before):
         need(parted(line) and before[:1] in ("(", "A"))
@@ -127,35 +133,98 @@ class Document:
         need(self.open and self.open.pop().text == name)
 
 
+# ---- Stylesheets: a rule is a pattern, "/" or an expanded name, and the steps of its body.
+
+def is_blank(text):
+    return not text.strip(" \t\r\n")
+
+
+def named(node, local):
+    return node.kind == "element" and node.expanded == (XSL, local)
+
+
+def said(nodes):
+    """The nodes but comments and texts of white space."""
+    return [node for node in nodes if node.kind == "element" or node.kind == "text" and not is_blank(node.text)]
+
+
+def pattern_of(match, document):
+    """What a rule is for, where the pattern is one of the built form."""
+    found = NAME.fullmatch(match)
+    need(match == "/" or found and document.uri(found[1]) is not None)
+    return match if match == "/" else (document.uri(found[1]), found[2])
+
+
+def keeps(kept, attributes):
+    """Whether white space is kept in an element with these attributes."""
+    for _, value, name in attributes:
+        if name == (XML, "space") and value in ("preserve", "default"):
+            return value == "preserve"
+    return kept
+
+
+def body_of(nodes, kept):
+    """The steps of a body, of the built form."""
+    for node in nodes:
+        if node.kind == "text" and (kept or not is_blank(node.text)):
+            yield "text", node.text
+        elif named(node, "text"):
+            need(not node.attributes and all(child.kind != "element" for child in node.children))
+            yield from (("text", child.text) for child in node.children if child.kind == "text")
+        elif named(node, "apply-templates"):
+            need(not node.attributes and not said(node.children))
+            yield "apply", None
+        elif node.kind == "element":
+            need(node.expanded[0] != XSL and all(name[0] != XSL and not set("{}") & set(value) for _, value, name in node.attributes))
+            yield "begin", node.expanded
+            yield from (("attribute", value) for _, value, _ in node.attributes)
+            yield from body_of(node.children, keeps(kept, node.attributes))
+            yield "end", None
+
+
+def rules_of(document):
+    """The rules of a stylesheet that was read, in their order."""
+    sheet, = (node for node in document.top if node.kind == "element")
+    need(named(sheet, "stylesheet") or named(sheet, "transform"))
+    need([name for _, _, name in sheet.attributes] == [("", "version")])
+    templates = said(sheet.children)
+    need(all(named(template, "template") and [name for _, _, name in template.attributes] == [("", "match")] for template in templates))
+    return [(pattern_of(template.attributes[0][1], document), list(body_of(template.children, False))) for template in templates]
+
+
+# ---- Inputs.
+
+def read_lines(lines):
+    need(all(PLAIN.fullmatch(line) for line in lines))
+    return Document([line.decode() for line in lines])
+
+
 def parse_input(data):
-    """The document and the lines of the script, or None where the input is refused."""
-    if len(data) > LONGEST_INPUT:
-        return None
+    """The rules, the document and the lines of the script, or None where the input is refused."""
     lines = data.split(b"\n")
     if lines[-1] == b"":
         lines.pop()
-    if b"!script" not in lines or lines[0] != b"!document":
-        return None
-    middle = lines.index(b"!script")
-    if not all(PLAIN.fullmatch(line) for line in lines[1:middle]):
-        return None
     try:
-        return Document([line.decode() for line in lines[1:middle]]), lines[middle + 1:]
+        need(len(data) <= LONGEST_INPUT and b"!script" in lines and b"!document" in lines[:lines.index(b"!script")])
+        script, document, rules = lines.index(b"!script"), lines.index(b"!document"), []
+        if document:
+            need(STYLE.fullmatch(lines[0]))
+            rules = rules_of(read_lines(lines[1:document]))
+        return rules, read_lines(lines[document + 1:script]), lines[script + 1:]
     except Refused:
         return None
 
 
-class Editor:
-    def __init__(self, document, words):
-        self.document, self.words = document, words
-        self.stops = None  # of the last view: columns and places, in the order of the line
-        self.changes = []  # since the last show: (text, offset, length), or (element, new text) for a first child
-        self.caret = None
+def printed(text):
+    return text.replace("\t", " ").replace("\n", " ")
 
-    def nodes(self, nodes):
-        for node in nodes:
-            yield node
-            yield from self.nodes(node.children)
+
+class Editor:
+    def __init__(self, rules, document, words):
+        self.rules, self.document, self.words = rules, document, words
+        self.stops = None  # of the last view, in order: page, line, column, its place or None, and its number among those of the place
+        self.changes = []  # since the last show: (text, offset, length), or (element, new text) for a first child
+        self.caret = self.occurrence = None
 
     def answer(self, line):
         word, _, rest = line.decode("latin-1").partition(" ")
@@ -169,23 +238,70 @@ class Editor:
             return self.type(meant(rest))
         return "refused not-built"
 
+    def applied(self, node, children):
+        """What templates give that are applied to all children; an element without any gives a place to type at."""
+        if node is not None and node.kind == "element" and not children:
+            yield "run", "", (node, None)
+        for child in children:
+            yield from self.result(child, child.children)
+
+    def result(self, node, children):
+        """What a node gives, by the last rule for it or by a built-in one: runs with their places, starts, attributes and ends."""
+        name = "/" if node is None else node.expanded
+        body = [body for pattern, body in self.rules if pattern == name]
+        if not body and node is not None and node.kind != "element":
+            yield from [("run", node.text, (node, 0))] if node.kind == "text" else []
+        elif not body:
+            yield from self.applied(node, children)
+        for step, value in body[-1] if body else []:
+            if step == "apply":
+                yield from self.applied(node, children)
+            elif step == "text":
+                yield from [("run", value, None)] if value else []
+            elif step == "attribute":
+                yield "attribute", None, None
+            else:
+                yield step, value, None
+
+    def lines(self):
+        """Whether the view has pages, and the lines of its one page, each of its runs."""
+        marks = list(self.result(None, self.document.top))
+        if not marks or marks[0][:2] != ("begin", (FO, "root")):
+            return False, [[(text, place) for kind, text, place in marks if kind == "run"]]
+        depth, groups = 0, [[]]
+        for kind, text, place in marks[1:]:
+            depth += {"begin": 1, "end": -1}.get(kind, 0)
+            if depth < 0:
+                break
+            if kind == "run":
+                groups[-1].append((text, place))
+            else:
+                groups.append([])
+        return True, [group for group in groups if any(not is_blank(text) or place and place[1] is None for text, place in group)]
+
     def show(self):
-        self.stops, self.changes, column, shown = [], [], 0, ""
-        for node in self.nodes(self.document.top):
-            if node.kind == "text":
-                self.stops += [(column + i, (node, i)) for i in range(len(node.text) + 1)]
-                column, shown = column + len(node.text), shown + node.text
-            elif node.kind == "element" and not node.children:
-                self.stops.append((column, (node, None)))
-        return "plain " + shown.replace("\t", " ").replace("\n", " ")
+        (pages, lines), self.stops, self.changes, counts = self.lines(), [], [], collections.Counter()
+        for number, runs in enumerate(lines, 1):
+            column = 0
+            for text, place in runs:
+                for i in range(len(text) + 1):
+                    here = place and (place[0], None if place[1] is None else place[1] + i)
+                    counts[here] += 1
+                    self.stops.append((1, number, column + i, here, here and counts[here]))
+                column += len(text)
+        texts = [printed("".join(text for text, _ in runs)) for runs in lines]
+        if not pages:
+            return "plain " + texts[0]
+        return "\n".join(["page 1"] + [f"line {i + 1} 0 {i * LINE_HEIGHT} {text}" for i, text in enumerate(texts)])
 
     def at(self, page, line, column):
         if self.stops is None:
             return "refused no-view"
-        here = [place for at, place in self.stops if (page, line, column) == (1, 1, at)]
-        if not here:
-            return "refused no-place"
-        node, offset = here[0]
+        here = [stop[3:] for stop in self.stops if stop[:3] == (page, line, column)]
+        places = [stop for stop in here if stop[0]]
+        if not places:
+            return "refused fixed" if here else "refused no-place"
+        (node, offset), self.occurrence = places[0]
         for change in self.changes:
             if len(change) == 2 and (node, offset) == (change[0], None):
                 node, offset = change[1], 0
@@ -213,8 +329,9 @@ class Editor:
     def where(self):
         if self.caret is None:
             return "refused no-caret"
-        columns = [column for column, place in self.stops if place == self.caret]
-        seen = "stale" if self.changes else f"1 1 {columns[-1]}" if columns else "hidden"
+        stops = [stop for stop in self.stops if stop[3] == self.caret]
+        stops = [stop for stop in stops if stop[4] == self.occurrence] or stops
+        seen = "stale" if self.changes else "{} {} {}".format(*stops[-1]) if stops else "hidden"
         node, offset = self.caret
         at = "into" if offset is None else offset
         return f"caret {node.number} {at} {seen}"
@@ -234,8 +351,8 @@ def expected(data, words):
     parsed = parse_input(data)
     if parsed is None:
         return REFUSED
-    document, script = parsed
-    editor = Editor(document, words)
+    rules, document, script = parsed
+    editor = Editor(rules, document, words)
     return "".join(editor.answer(line) + "\n" for line in script).encode(), 0
 
 
@@ -292,21 +409,64 @@ def random_document(rng):
     return lines
 
 
-def random_command(rng, widest):
-    column = rng.randint(0, widest + 1)
-    usual = ["show", f"at 1 1 {column}", "type " + (escaped(random_text(rng, 6)) or "x"), "where", "source", None]
+def random_body(rng, depth, prefixes):
+    """The lines of a rule's body, at most so deep."""
+    lines = []
+    for _ in range(rng.randint(0, 3)):
+        kind = rng.random()
+        if kind < 0.35:
+            lines += ["(xsl:apply-templates", ")xsl:apply-templates"]
+        elif kind < 0.5:
+            lines.append("-" + escaped(rng.choice([random_text(rng, 4), " ", "x:"])))
+        elif kind < 0.6:
+            lines += ["(xsl:text", "-" + escaped(random_text(rng, 3)), ")xsl:text"]
+        elif kind < 0.65:
+            lines.append(random_comment(rng))
+        elif depth:
+            name = rng.choice(["fo:block", "fo:flow", "fo:root", "b", random_name(rng, prefixes)])
+            attributes = rng.choices([[], ["Axml:space " + rng.choice(["preserve", "default", "x"])], ["Acolor red"], ["Aa {x}"], ["Axsl:a x"]], [60, 20, 18, 1, 1])[0]
+            lines += ["(" + name, *attributes, *random_body(rng, depth - 1, prefixes), ")" + name]
+    return lines
+
+
+FAULTY_STYLES = ["(xsl:if", "(xsl:apply-templates", ")xsl:text", "(b", "-text", "Aname x", "Amode x", "(xsl:template", ")xsl:template", "Aselect x", "!style t", "!script"]
+
+
+def random_style(rng):
+    """The lines of a stylesheet with its head, mostly of the built form."""
+    declared = rng.sample(["p", "q"], rng.choice([0, 1, 2]))
+    lines = ["(xsl:stylesheet", "Aversion 1.0", "Axmlns:xsl " + XSL, "Axmlns:fo " + FO] + [f"Axmlns:{prefix} " + rng.choice(["u", "v"]) for prefix in declared]
+    if rng.random() < 0.7:
+        root = ["(fo:root", *random_body(rng, 1, declared), "(fo:flow", "(xsl:apply-templates", ")xsl:apply-templates", ")fo:flow", ")fo:root"]
+        lines += ["(xsl:template", "Amatch /", *root, ")xsl:template"]
+    for _ in range(rng.randint(0, 4)):
+        lines += ["(xsl:template", "Amatch " + rng.choices([random_name(rng, declared), "/", "z:a", "a/b"], [95, 3, 1, 1])[0], *random_body(rng, 2, declared), ")xsl:template"]
+    lines.append(")xsl:stylesheet")
+    if rng.random() < 0.15:  # one line that may not belong there, or one that is missing
+        if rng.random() < 0.5:
+            lines.insert(rng.randint(0, len(lines)), rng.choice(FAULTY_STYLES + STRAYS))
+        else:
+            del lines[rng.randrange(len(lines))]
+    return ["!style " + rng.choices(["t", "a/b.lines", "", "a b", "t "], [80, 17, 1, 1, 1])[0]] + lines
+
+
+def random_command(rng, widest, lowest):
+    column, line = rng.randint(0, widest + 1), rng.randint(1, lowest)
+    usual = ["show", f"at 1 {line} {column}", "type " + (escaped(random_text(rng, 6)) or "x"), "where", "source", None]
     return rng.choices(usual, [15, 30, 25, 15, 5, 10])[0] or rng.choice([f"at 1 1 0{column}", f"at 01 001 {column:09}", f"at 1 1 {column:010}", f"at 2 1 {column}", f"at 1 0 {column}", f"at 1  1 {column}", f"at 1 1 {column} ", " show", "show ", "Show", "shown", "at", "at 1 1", "at 1 1 1 1", "at 1 1 -1", "at 1 1 a", "type", "type ", "type  ", "type\ta", "type a\\q", "type \\", "type \u00e9", "typea", "where ", "source x", "end", "undo", "left", "", "\x7f", "!script"])
 
 
 def random_input(rng):
-    document = random_document(rng)
+    document, style = random_document(rng), random_style(rng) if rng.random() < 0.5 else []
     widest = sum(len(line) - 1 for line in document if line.startswith("-"))
-    script = ["show"] * (rng.random() < 0.8) + [random_command(rng, widest) for _ in range(rng.randint(0, 25))]
+    if style:
+        widest = min(widest, rng.choice([3, 8, 20, widest]))
+    script = ["show"] * (rng.random() < 0.8) + [random_command(rng, widest, 4 if style else 1) for _ in range(rng.randint(0, 25))]
     head = rng.choices(["!document", "!style t", "document", ""], [97, 1, 1, 1])[0]
-    lines = [head] + document + (["!script"] if rng.random() < 0.98 else []) + script
+    lines = style + [head] + document + (["!script"] if rng.random() < 0.98 else []) + script
     if rng.random() < 0.03:  # near the limit of the whole input, on either side
         size = sum(len(line) + 1 for line in lines)
-        lines.insert(2, "-" + "x" * (LONGEST_INPUT - size - 2 + rng.randint(-1, 1)))
+        lines.insert(len(style) + 2, "-" + "x" * (LONGEST_INPUT - size - 2 + rng.randint(-1, 1)))
     return "\n".join(lines).encode() + (b"\n" if rng.random() < 0.9 else b"")
 
 

@@ -8,7 +8,7 @@ use Rattle.std.proofs.lemmas.List.Recursion.{is_position_or_len}
 use Rattle.std.proofs.Math.Nat.{pow-le-pow_right}
 use Rattle.serna_kinds.specs.Qualified.{is_digit}
 use Rattle.tree_lines.specs.Texts.{has_escapes, meant}
-use Rattle.plain_editor.specs.Input.{is_plain}
+use Rattle.plain_editor.specs.Plain.{is_plain}
 use Rattle.plain_editor.specs.Commands.{Command, NotBuilt, Typing, behind_front, parts_of, read_number, at_place, at_parts, typing}
 
 -- what follows a front

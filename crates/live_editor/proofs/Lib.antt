@@ -1,7 +1,11 @@
 pub mod BegunRun
 pub mod CommandLines
-pub mod GrownLaws
 pub mod Typing
 pub mod Looking
 pub mod Putting
 pub mod StandingLaws
+pub mod Loops
+pub mod RoomThere
+pub mod LineLoops
+pub mod Printing
+pub mod Starts

@@ -1,17 +1,17 @@
 -- The editor in memory stands for the plain editor, and how proofs tell two of these apart.
-use Rattle.std.specs.Prelude.{◌≡◌, ℕ, ◌+◌, ◌==◌, ◌&&◌, Bool, true, false, List, [], length, take, filter, slice_get, Option, Some, None, Result, Ok, Err, refl}
+use Rattle.std.specs.Prelude.{◌≡◌, ℕ, ◌+◌, ◌==◌, ◌&&◌, Bool, false, List, [], length, take, filter, slice_get, Option, Some, None, is_some, Result, Ok, Err, refl}
 use Rattle.std.specs.Coded.{Coded, code_by, coded×, coded_ℕ}
 use Rattle.serna_kinds.specs.Names.{NameParts}
 use Rattle.source_model.specs.Source.{Source}
 use Rattle.source_tree.specs.declared.prim.Caret.{Caret}
 use Rattle.source_tree.specs.declared.prim.Primitive.{Primitive}
 use Rattle.source_tree.specs.Places.{carried_through}
-use Rattle.plain_editor.specs.Editor.{Editor, Reply, Done, Refused, with_caret}
-use Rattle.plain_editor.specs.Stops.{Stop, stops_behind, comes_from}
+use Rattle.result_origin.specs.declared.origin.Origin.{Origin}
+use Rattle.plain_editor.specs.Editor.{Editor, Reply, Done, Refused, NoPlace, with_caret, refused_by}
+use Rattle.plain_editor.specs.Editor as editor
+use Rattle.plain_editor.specs.Stops.{Stop, place_of, stops_behind, comes_from}
 use Rattle.plain_editor.specs.Sound.{IsSound}
 use Rattle.live_editor.specs.declared.view.Boundary.{Boundary}
-use Rattle.live_editor.specs.declared.view.Origin.{Origin}
-use Rattle.live_editor.specs.declared.view.Origin.TheVariants as code
 use Rattle.live_editor.specs.declared.reply.Rule.{Rule}
 use Rattle.live_editor.specs.declared.editor.TypeFault.{TypeFault}
 use Rattle.live_editor.specs.declared.editor.TypeFault.TheVariants as fault
@@ -44,19 +44,29 @@ abbrev pub IsRefusal : Type 0 → (Rule → Type 0) → TypeFault → Type 0
 IsRefusal kept refused (fault.Rule rule) = kept × refused rule
 IsRefusal kept refused fault.NoMemory = kept
 
+-- the origin is a place of the source
 abbrev pub is_place : Origin → Bool
-is_place (code.At place) = true
-is_place (code.Fixed rule) = false
+is_place from = is_some (place_of from)
 
--- the boundary is in a column, and at a place
-abbrev pub is_caret_in : ℕ → Boundary → Bool
-is_caret_in column here = here.column == column && is_place here.origin
+-- the boundary is in a column of a line of a page
+abbrev pub is_at : ℕ → ℕ → ℕ → Boundary → Bool
+is_at page line column here = here.page == page && here.line == line && here.column == column
+
+-- and at a place
+abbrev pub is_caret_at : ℕ → ℕ → ℕ → Boundary → Bool
+is_caret_at page line column here = is_at page line column here && is_place here.origin
 
 abbrev pub is_place_at : List Boundary → ℕ → Bool
 is_place_at boundaries index = elim (slice_get boundaries index) [ None ↦ false | Some here ↦ is_place here.origin ]
 
+-- why no caret is put at the first boundary, where none is at a place
+abbrev pub refused_at : Option Boundary → editor.Rule
+refused_at None = NoPlace
+refused_at (Some here) = refused_by here.origin
+
 -- the caret at one of the boundaries, which is at a place
 pub record IsCaretAt (boundaries : List Boundary) (index : ℕ) (caret : Caret) : Type 0 where
-  pub column : ℕ
-  pub here : slice_get boundaries index ≡ Some (record { column = column; origin = code.At caret.place })
+  pub here : Boundary
+  pub found : slice_get boundaries index ≡ Some here
+  pub place : place_of here.origin ≡ Some caret.place
   pub occurrence : caret.occurrence ≡ 1 + length (filter (comes_from caret.place) (boundaries_of (take index boundaries)))

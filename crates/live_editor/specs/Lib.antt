@@ -2,5 +2,4 @@ pub mod Said
 pub mod Answers
 pub mod Offsets
 pub mod Shown
-pub mod CellWords
 pub mod Held

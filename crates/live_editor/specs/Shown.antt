@@ -1,38 +1,51 @@
--- What a view holds while it is made, in the plain editor's words.
-use Rattle.std.specs.Prelude.{◌≡◌, ℕ, ◌+◌, ◌^◌, ◌<◌, ◌≤◌, List, ◌++◌, map, length, encode_utf8_all}
-use Rattle.std.specs.String.{string_bytes}
-use Rattle.source_tree.specs.declared.prim.CaretPlace.TheVariants as place
-use Rattle.live_editor.specs.declared.view.Origin.{Origin}
-use Rattle.live_editor.specs.declared.view.Origin.TheVariants as code
+-- What a view holds, in the plain editor's words.
+use Rattle.std.specs.Prelude.{◌≡◌, ℕ, ◌+◌, ◌^◌, ◌<◌, Bool, true, false, List, map}
+use Rattle.std.specs.List.{AllByRecursion}
+use Rattle.result_origin.specs.declared.origin.Origin.{Origin}
+use Rattle.result_origin.specs.declared.origin.Origin.TheVariants as origin
+use Rattle.result_origin.specs.declared.pages.Line.{Line}
+use Rattle.result_origin.specs.declared.pages.Page.{Page}
+use Rattle.result_origin.specs.Pages.{PartValue}
+use Rattle.page_print.specs.Print.{pages_text, plain_line}
 use Rattle.live_editor.specs.declared.view.Boundary.{Boundary}
-use Rattle.live_editor.specs.declared.view.View.{View}
-use Rattle.plain_editor.specs.Editor.{printed}
-use Rattle.plain_editor.specs.Runs as runs
 use Rattle.plain_editor.specs.Stops as stops
 
-abbrev pub origin_of : Origin → runs.Origin
-origin_of (code.At place) = runs.At place
-origin_of (code.Fixed rule) = runs.Fixed rule
-
 abbrev pub boundary_of : Boundary → stops.Boundary
-boundary_of here = record { column = here.column; origin = origin_of here.origin }
+boundary_of here = record { page = here.page; line = here.line; column = here.column; origin = here.origin }
 
 abbrev pub boundaries_of : List Boundary → List stops.Boundary
 boundaries_of here = map boundary_of here
 
+-- the pages of a result that begins with `fo:root`, or of one that does not
+abbrev pub laid_text : Bool → List Page → List ℕ
+laid_text true pages = pages_text pages
+laid_text false pages = plain_line pages
+
 -- a place so many bytes behind can be said
 abbrev pub HasRoom : ℕ → Origin → Type 0
-HasRoom more (code.At (place.Text number at)) = at + more < 2 ^ 64
-HasRoom more (code.At (place.Into number)) = Unit {0}
-HasRoom more (code.Fixed rule) = Unit {0}
+HasRoom more (origin.Text number at) = at + more < 2 ^ 64
+HasRoom more (origin.Attr number name at) = at + more < 2 ^ 64
+HasRoom more (origin.Into number) = Unit {0}
+HasRoom more (origin.Fixed rule) = Unit {0}
+HasRoom more (origin.Computed rule node) = Unit {0}
 
--- the column of a view is no further than its boundaries are many
-abbrev pub IsWithin : View → Type 0
-IsWithin view = view.column ≤ length view.boundaries.items
+-- what comes from a text or a value of the source comes from its start
+abbrev pub IsAtStart : Origin → Type 0
+IsAtStart (origin.Text number at) = at ≡ 0
+IsAtStart (origin.Attr number name at) = at ≡ 0
+IsAtStart (origin.Into number) = Unit {0}
+IsAtStart (origin.Fixed rule) = Unit {0}
+IsAtStart (origin.Computed rule node) = Unit {0}
 
--- the view has got some runs more, as they are printed
-pub record Grown (old new : View) (more : List runs.Run) : Type 0 where
-  pub line : string_bytes new.line ≡ string_bytes old.line ++ encode_utf8_all (map printed (runs.texts_of more))
-  pub boundaries : boundaries_of new.boundaries.items ≡ boundaries_of old.boundaries.items ++ stops.line_boundaries old.column more
-  pub column : new.column ≡ old.column + length (runs.texts_of more)
-  pub within : IsWithin new
+-- before there is layout a part is a whole run
+abbrev pub IsFromStart : PartValue → Type 0
+IsFromStart part = (part.start ≡ 0) × IsAtStart part.run.origin
+
+abbrev pub AreAtStart : List PartValue → Type 0
+AreAtStart parts = AllByRecursion IsFromStart parts
+
+abbrev pub AreLinesAtStart : List Line → Type 0
+AreLinesAtStart lines = AllByRecursion (λ (line : Line). AreAtStart line.parts) lines
+
+abbrev pub ArePagesAtStart : List Page → Type 0
+ArePagesAtStart pages = AllByRecursion (λ (page : Page). AreLinesAtStart page.lines) pages

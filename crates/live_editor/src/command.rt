@@ -1,6 +1,6 @@
 ghost use Rattle.std.specs.Prelude.{◌≡◌, ◌==◌, [], ◌∷◌, IfSome, IfNone, IfOk, position};
 ghost use Rattle.std.specs.Option.{option_map};
-ghost use Rattle.plain_editor.specs.Input.{is_plain};
+ghost use Rattle.plain_editor.specs.Plain.{is_plain};
 ghost use Rattle.plain_editor.specs.Commands.{command_of, at_parts, typing, parts_of, read_number, behind_front};
 ghost use Rattle.live_editor.specs.Said.{said};
 

@@ -1,31 +1,34 @@
-ghost use Rattle.std.specs.List.{list_any};
-ghost use Rattle.std.specs.Prelude.{position, ◌==◌, ◌≡◌, ◌≢◌, ◌++◌, ◌+◌, ◌∷◌, [], Ok, Err, IsTrue, None, IfOk, IfErr, OnOk, OnErr, ℕ, List, filter, length, slice_get, Some, ◌<◌, ◌≤◌};
+ghost use Rattle.std.specs.List.{find};
+ghost use Rattle.std.specs.Prelude.{position, ◌≡◌, ◌≢◌, ◌++◌, ◌+◌, ◌∷◌, [], Ok, Err, IsTrue, None, IfOk, IfErr, OnOk, OnErr, ℕ, List, filter, length, Some, ◌<◌, ◌≤◌};
 ghost use Rattle.std.specs.Str.{chars};
 ghost use Rattle.std.specs.String.{string_bytes};
 ghost use Rattle.source_tree.specs.declared.prim.CaretPlace.TheVariants as place;
 ghost use Rattle.source_tree.specs.Prims.{applied, MayApply, KeepsProper};
 ghost use Rattle.source_tree.specs.Places.{IsPlaceOf, carried_through};
 ghost use Rattle.source_model.specs.Changes.{text_at};
-ghost use Rattle.plain_editor.specs.Runs.{At};
+ghost use Rattle.source_tree.specs.Unnumbered.{document_of};
+ghost use Rattle.tree_lines.specs.Canonical.{canonical_text};
 ghost use Rattle.plain_editor.specs.Stops.{comes_from};
-ghost use Rattle.plain_editor.specs.Editor.{Editor, Done, Refused, opened, shown, stands_at, put_among, put_at, changed, bytes_of, typed_at, typed, obeyed, step, told, standing, standing_at, nearest, stands_for, reply_text};
+ghost use Rattle.plain_editor.specs.Editor.{Editor, Done, Refused, opened, shown, stands_at, put_among, put_at, changed, bytes_of, typed_at, typed, obeyed, step, told, standing, standing_at, nearest, stands_for, refused_by, reply_text};
 ghost use Rattle.plain_editor.specs.Editor as editor;
 ghost use Rattle.live_editor.specs.Answers.{rule_of, reply_of, standing_of, shown_at};
-ghost use Rattle.live_editor.specs.Shown.{boundaries_of, boundary_of, origin_of};
-ghost use Rattle.live_editor.specs.Held.{stops_of, IsSomeSound, IsRefusal, taken, is_place, is_caret_in, is_place_at, IsCaretAt};
+ghost use Rattle.live_editor.specs.Shown.{boundaries_of, boundary_of};
+ghost use Rattle.live_editor.specs.Held.{stops_of, IsSomeSound, IsRefusal, taken, is_place, is_at, is_caret_at, is_place_at, refused_at, IsCaretAt};
 ghost use Rattle.plain_editor.specs.Commands as command;
 ghost use Rattle.live_editor.specs.declared.editor.TypeFault.TheVariants as fault;
 
 use crate::command::{Command, read_command};
-use crate::place::{carried, is_same_place};
+use crate::place::{carried, is_same_place, place_of};
 use crate::reply::{Rule, Standing, reply_line, told_line};
-use crate::view::{Boundary, Origin, view_of};
+use crate::view::{Boundary, view_of};
+use result_origin::Origin;
 use serna_kinds::{
     Cell, CellValue, Chars, Facet, Items, NameTable, NoMemory, NodeName, SourceView,
 };
 use source_tree::{Caret, CaretPlace, Primitive, SourceTree, SubItem};
 use std::alloc::{AllocError, Global};
 use std::marker::Model;
+use style_sheet::Style;
 
 /// The most bytes of a text node, the most nodes that are ever made, and the most changes that are accepted.
 const MAX_TEXT_BYTES: usize = 16_384;
@@ -91,16 +94,17 @@ impl Editor {
         }
     }
 
-    /// Obeys a command line, and gives the text that it is answered, each line with its LF.
+    /// Obeys a command line, and gives the text that it is answered, each line with its LF. `style` is the stylesheet, whose names
+    /// are numbers of the editor's table.
     ///
     /// `Err` comes where memory runs out. The editor is then of no further use.
-    pub fn obey(&mut self, alloc: Global, line: &[u8]) -> Result<String, NoMemory>
-        ensures state { OnOk result (self.new ≡ (step self.old line.now).0) }
-        ensures answer { IfOk result (λ text. string_bytes text ≡ reply_text (step self.old line.now).1) }
+    pub fn obey(&mut self, alloc: Global, style: &Style, line: &[u8]) -> Result<String, NoMemory>
+        ensures state { OnOk result (self.new ≡ (step style.now self.old line.now).0) }
+        ensures answer { IfOk result (λ text. string_bytes text ≡ reply_text (step style.now self.old line.now).1) }
     {
         match read_command(alloc, line)? {
             Command::Show => {
-                let text = self.show(alloc)?;
+                let text = self.show(alloc, style)?;
                 Ok(text)
             }
             Command::At(page, line, column) => {
@@ -145,8 +149,8 @@ impl Editor {
             return Standing::Stale;
         }
         match &self.view {
-            Some(boundaries) => match column_of(boundaries.as_slice(), caret) {
-                Some(column) => Standing::Shown(column),
+            Some(boundaries) => match caret_boundary(boundaries.as_slice(), caret) {
+                Some(here) => Standing::Shown(here.page, here.line, here.column),
                 None => Standing::Hidden,
             },
             None => Standing::Hidden,
@@ -155,7 +159,7 @@ impl Editor {
 
     /// `source`: the tree lines of the present source.
     fn write_source(&self, alloc: Global) -> Result<String, NoMemory>
-        ensures { IfOk result (λ text. string_bytes text ≡ reply_text (obeyed self.now command.Tree).1) }
+        ensures { IfOk result (λ text. string_bytes text ≡ canonical_text self.now.names self.now.source.spaces (document_of self.now.source)) }
     {
         let lines = self.source.lines(alloc, &self.names)?;
         let text = String::from_str(alloc, lines.as_text())?;
@@ -163,14 +167,14 @@ impl Editor {
     }
 
     /// `show`: prints the view of the present source, and keeps its stops.
-    fn show(&mut self, alloc: Global) -> Result<String, NoMemory>
-        ensures state { OnOk result (self.new ≡ shown self.old) }
-        ensures answer { IfOk result (λ text. string_bytes text ≡ reply_text (obeyed self.old command.Show).1) }
+    fn show(&mut self, alloc: Global, style: &Style) -> Result<String, NoMemory>
+        ensures state { OnOk result (self.new ≡ shown style.now self.old) }
+        ensures answer { IfOk result (λ text. string_bytes text ≡ reply_text (obeyed style.now self.old command.Show).1) }
     {
-        let view = view_of(alloc, &self.source)?;
+        let view = view_of(alloc, style, &self.names, &self.source)?;
         self.view = Some(view.boundaries);
         self.since.clear();
-        Ok(view.line)
+        Ok(view.text)
     }
 
     /// `at`: puts the caret at the first stop there that is at a place, carried through the prims since the show.
@@ -181,10 +185,12 @@ impl Editor {
         let Some(boundaries) = &self.view else {
             return Err(Rule::NoView);
         };
-        if page != 1 || line != 1 {
-            return Err(Rule::NoPlace);
-        }
-        let caret = caret_at(boundaries.as_slice(), column as usize)?;
+        let caret = caret_at(
+            boundaries.as_slice(),
+            page as usize,
+            line as usize,
+            column as usize,
+        )?;
         let place = self.carried_place(caret.place);
         self.caret = Some(Caret {
             place,
@@ -327,64 +333,79 @@ impl Editor {
     }
 }
 
-/// The column of a caret's boundary: that of its occurrence among those at its place, or of the last of them.
-fn column_of(boundaries: &[Boundary], caret: Caret) -> Option<usize>
+/// The boundary of a caret: that of its occurrence among those at its place, or else the last of them.
+fn caret_boundary(boundaries: &[Boundary], caret: Caret) -> Option<Boundary>
     ensures { standing_at (nearest None caret.occurrence (filter (stands_for caret.place) (stops_of boundaries.now))) ≡ shown_at result }
 {
-    let mut column = None;
+    let mut last = None;
     let mut count = 0;
     for here in boundaries {
         if !comes_from(caret.place, here) {
             continue;
         }
         count += 1;
-        column = Some(here.column);
+        last = Some(*here);
         if count == caret.occurrence {
-            return column;
+            return last;
         }
     }
-    column
+    last
 }
 
-/// The caret at the first boundary in a column that is at a place. Where none is at a place, what stands there says why.
-fn caret_at(boundaries: &[Boundary], column: usize) -> Result<Caret, Rule>
-    ensures { (editor : Editor) → put_among editor (filter (stands_at 1 1 column) (stops_of boundaries.now)) ≡ taken editor result }
+/// The caret at the first boundary there that is at a place. Where none is at a place, the first says why.
+fn caret_at(boundaries: &[Boundary], page: usize, line: usize, column: usize) -> Result<Caret, Rule>
+    ensures { (editor : Editor) → put_among editor (filter (stands_at page line column) (stops_of boundaries.now)) ≡ taken editor result }
 {
-    match first_caret(boundaries, column) {
+    match first_caret(boundaries, page, line, column) {
         Some(index) => Ok(caret_of(boundaries, index)),
-        None if has_column(boundaries, column) => Err(Rule::FixedText),
-        None => Err(Rule::NoPlace),
+        None => Err(refusal_at(boundaries, page, line, column)),
     }
 }
 
-/// The first boundary in a column that is at a place.
-fn first_caret(boundaries: &[Boundary], column: usize) -> Option<usize>
-    ensures { result ≡ position (is_caret_in column) boundaries.now }
+/// The first boundary there that is at a place.
+fn first_caret(boundaries: &[Boundary], page: usize, line: usize, column: usize) -> Option<usize>
+    ensures { result ≡ position (is_caret_at page line column) boundaries.now }
 {
-    boundaries.iter().position(|here| is_place_in(here, column))
+    boundaries.iter().position(|here| is_at(here, page, line, column) && is_place(here.origin))
 }
 
-/// Whether a boundary is in a column.
-fn has_column(boundaries: &[Boundary], column: usize) -> bool
-    ensures { result ≡ list_any (λ here. here.column == column) boundaries.now }
+/// Why no caret is put where no boundary is at a place: the first boundary there says it.
+fn refusal_at(boundaries: &[Boundary], page: usize, line: usize, column: usize) -> Rule
+    ensures { rule_of result ≡ refused_at (find (is_at page line column) boundaries.now) }
 {
-    boundaries.iter().any(|here| here.column == column)
+    for here in boundaries {
+        if is_at(here, page, line, column) {
+            return refused_by(here.origin);
+        }
+    }
+    Rule::NoPlace
 }
 
-/// Whether a boundary is in a column, and at a place.
-fn is_place_in(here: &Boundary, column: usize) -> bool
-    ensures { result ≡ is_caret_in column here.now }
+/// Why no caret is put at an origin.
+fn refused_by(origin: Origin) -> Rule
+    ensures { rule_of result ≡ refused_by origin }
 {
-    here.column == column && is_place(here.origin)
+    match origin {
+        Origin::Text(_, _) => Rule::NoPlace,
+        Origin::Attr(_, _, _) => Rule::AttributeText,
+        Origin::Into(_) => Rule::NoPlace,
+        Origin::Fixed(_) => Rule::FixedText,
+        Origin::Computed(_, _) => Rule::ComputedText,
+    }
 }
 
+/// Whether a boundary is in a column of a line of a page.
+fn is_at(here: &Boundary, page: usize, line: usize, column: usize) -> bool
+    ensures { result ≡ is_at page line column here.now }
+{
+    here.page == page && here.line == line && here.column == column
+}
+
+/// Whether an origin is a place of the source.
 fn is_place(origin: Origin) -> bool
     ensures { result ≡ is_place origin }
 {
-    match origin {
-        Origin::At(_) => true,
-        Origin::Fixed(_) => false,
-    }
+    place_of(origin).is_some()
 }
 
 /// The caret at one of the boundaries, which is at a place: its occurrence is its number, from 1, among those of this place.
@@ -393,12 +414,12 @@ fn caret_of(boundaries: &[Boundary], index: usize) -> Caret
     requires place { IsTrue (is_place_at boundaries.now index) }
     ensures { IsCaretAt boundaries.now index result }
 {
-    match boundaries[index].origin {
-        Origin::At(place) => Caret {
+    match place_of(boundaries[index].origin) {
+        Some(place) => Caret {
             place,
             occurrence: 1 + count_of(&boundaries[..index], place),
         },
-        Origin::Fixed(_) => unreachable!(),
+        None => unreachable!(),
     }
 }
 
@@ -419,9 +440,9 @@ fn count_of(boundaries: &[Boundary], place: CaretPlace) -> usize
 fn comes_from(place: CaretPlace, here: &Boundary) -> bool
     ensures { result ≡ comes_from place (boundary_of here.now) }
 {
-    match here.origin {
-        Origin::At(other) => is_same_place(place, other),
-        Origin::Fixed(_) => false,
+    match place_of(here.origin) {
+        Some(other) => is_same_place(place, other),
+        None => false,
     }
 }
 

@@ -1,10 +1,24 @@
 ghost use Rattle.std.specs.Prelude.{◌≡◌, ◌≤◌};
 ghost use Rattle.source_tree.specs.Places.{carried, behind_removal, into_first};
-ghost use Rattle.plain_editor.specs.Stops.{is_same_place};
+ghost use Rattle.plain_editor.specs.Stops.{is_same_place, place_of};
 ghost use Rattle.live_editor.specs.Offsets.{offset_of};
 
+use result_origin::Origin;
 use serna_kinds::NodeName;
 use source_tree::{CaretPlace, Primitive, SubItem};
+
+/// The place of the source that an origin is, if it is one.
+pub(crate) fn place_of(origin: Origin) -> Option<CaretPlace>
+    ensures { result ≡ place_of origin }
+{
+    match origin {
+        Origin::Text(node, at) => Some(CaretPlace::Text(node, at)),
+        Origin::Attr(_, _, _) => None,
+        Origin::Into(node) => Some(CaretPlace::Into(node)),
+        Origin::Fixed(_) => None,
+        Origin::Computed(_, _) => None,
+    }
+}
 
 /// Whether two places are one.
 pub(crate) fn is_same_place(a: CaretPlace, b: CaretPlace) -> bool

@@ -18,6 +18,10 @@ pub(crate) enum Rule {
     NoPlace,
     /// What stands there is the text of a rule.
     FixedText,
+    /// What stands there was computed by a rule.
+    ComputedText,
+    /// What stands there is the value of an attribute.
+    AttributeText,
     /// There is no caret.
     NoCaret,
     /// A text node would have more than 16,384 bytes.
@@ -38,6 +42,8 @@ impl Rule {
             Rule::NoView => "no-view",
             Rule::NoPlace => "no-place",
             Rule::FixedText => "fixed",
+            Rule::ComputedText => "computed",
+            Rule::AttributeText => "attribute",
             Rule::NoCaret => "no-caret",
             Rule::Long => "long",
             Rule::Nodes => "nodes",
@@ -71,8 +77,8 @@ pub(crate) enum Standing {
     Stale,
     /// The last view has no stop at the caret's place.
     Hidden,
-    /// In a column of line 1 of page 1.
-    Shown(usize),
+    /// On a page, a line of it, and a column of that.
+    Shown(usize, usize, usize),
 }
 
 /// The line that `where` is answered, with its LF.
@@ -104,8 +110,7 @@ fn standing_words(alloc: Global, standing: Standing) -> Result<String, NoMemory>
             let words = String::from_str(alloc, "hidden")?;
             Ok(words)
         }
-        Standing::Shown(column) => {
-            let (page, line) = (1u32, 1u32);
+        Standing::Shown(page, line, column) => {
             let words = format!(in alloc; "{page} {line} {column}")?;
             Ok(words)
         }

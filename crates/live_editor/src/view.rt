@@ -1,232 +1,158 @@
-ghost use Rattle.std.specs.Prelude.{◌≡◌, length, ◌++◌, ◌∷◌, [], IfOk, OnOk, map, encode_utf8_all};
+ghost use Rattle.std.specs.Prelude.{◌≡◌, ◌+◌, ◌≤◌, ◌++◌, length, IfOk, OnOk, encode_utf8_all};
+ghost use Rattle.std.specs.List.{flat_map};
 ghost use Rattle.std.specs.Str.{chars};
 ghost use Rattle.std.specs.String.{string_bytes};
-ghost use Rattle.plain_editor.specs.Editor.{Plain, reply_text, printed};
-ghost use Rattle.plain_editor.specs.Runs.{run, texts_of, node_runs, view_runs};
-ghost use Rattle.plain_editor.specs.Stops.{line_boundaries};
+ghost use Rattle.result_origin.specs.Pages.{shown_bytes};
+ghost use Rattle.plain_editor.specs.Views.{view_pages, view_text};
+ghost use Rattle.plain_editor.specs.Stops.{run_boundaries, part_boundaries, line_boundaries, page_boundaries};
 ghost use Rattle.plain_editor.specs.Stops as stops;
-ghost use Rattle.live_editor.specs.CellWords.{kind_at, kids_at, text_runs_at, kid_runs, runs_within};
-ghost use Rattle.live_editor.specs.Shown.{origin_of, boundaries_of, HasRoom, Grown, IsWithin};
+ghost use Rattle.live_editor.specs.Shown.{boundaries_of, laid_text, HasRoom, IsFromStart, AreAtStart, AreLinesAtStart, ArePagesAtStart};
 
-use serna_kinds::{Cell, CellValue, Facet, Kind, NoMemory, NodeName, SourceView};
-use source_tree::{CaretPlace, SourceTree};
+use page_print::{page_text, plain_text};
+use result_origin::{Line, Origin, Page, Part};
+use serna_kinds::{Chars, NameTable, NoMemory, Tape};
+use simple_pages::{Laid, lay_out};
+use source_tree::SourceTree;
 use std::alloc::Global;
+use style_sheet::Style;
+use template_run::transform;
 
-/// The levels of instances below which a text `[deep]` stands.
-const LEVELS: u32 = 200;
-
-/// Where what stands at a boundary comes from: a place in the source, or the text of a rule, by the rule's number.
-#[derive(Clone, Copy, Debug, PartialEq, Eq)]
-pub(crate) enum Origin {
-    At(CaretPlace),
-    Fixed(u32),
-}
-
-/// A boundary between two characters of the view's line, or at its start or end: its column, and where what stands
-/// there comes from.
+/// A boundary between two characters of a line, or at its start or end: its page and its line, from 1, its column, and where
+/// what stands there comes from.
 #[derive(Clone, Copy, Debug)]
 pub(crate) struct Boundary {
+    pub(crate) page: usize,
+    pub(crate) line: usize,
     pub(crate) column: usize,
     pub(crate) origin: Origin,
 }
 
-/// A view while it is made: its line as it is printed, and the boundaries of its characters. A character is one column.
+/// A view: its text as it is printed, and the boundaries of the characters of its lines. A character is one column.
 #[derive(Debug, Drop)]
 pub(crate) struct View {
-    pub(crate) line: String,
-    pub(crate) column: usize,
+    pub(crate) text: String,
     pub(crate) boundaries: Vec<Boundary>,
 }
 
-/// The view of a source, by the built-in template rules (XSLT 1.0, section 5.8).
-pub(crate) fn view_of(alloc: Global, source: &SourceTree) -> Result<View, NoMemory>
-    ensures line { IfOk result (λ view. string_bytes view.line ≡ reply_text (Plain (texts_of (view_runs source.now)))) }
-    ensures boundaries { IfOk result (λ view. boundaries_of view.boundaries.items ≡ line_boundaries 0 (view_runs source.now)) }
+/// The view of a source under a stylesheet. `names` is the table that the names of both are numbers of.
+pub(crate) fn view_of(
+    alloc: Global,
+    style: &Style,
+    names: &NameTable,
+    source: &SourceTree,
+) -> Result<View, NoMemory>
+    ensures text { IfOk result (λ view. string_bytes view.text ≡ view_text names.now style.now source.now) }
+    ensures boundaries { IfOk result (λ view. boundaries_of view.boundaries.items ≡ flat_map page_boundaries (view_pages names.now style.now source.now)) }
 {
-    let mut view = View {
-        line: String::from_str(alloc, "plain ")?,
-        column: 0,
-        boundaries: Vec::new(alloc),
-    };
-    push_node(source, NodeName(0), LEVELS, &mut view)?;
-    view.line.push('\n')?;
-    Ok(view)
+    let mut tape = Tape::new(alloc);
+    let whole = transform(alloc, style, source, names, &mut tape)?;
+    let laid = lay_out(alloc, &whole, names)?;
+    let text = text_of(alloc, &laid)?;
+    let text = String::from_str(alloc, text.as_text())?;
+    let mut boundaries = Vec::new(alloc);
+    push_pages(laid.pages.as_slice(), &mut boundaries)?;
+    Ok(View { text, boundaries })
 }
 
-/// Adds the runs of the instance of a node, with so many levels left.
-#[cycle(runs)]
-fn push_node(
-    source: &SourceTree,
-    node: NodeName,
-    left: u32,
-    view: &mut View,
-) -> Result<(), NoMemory>
-    requires { IsWithin view.old }
-    ensures { OnOk result (Grown view.old view.new (node_runs left source.now node.0)) }
+/// What pages are printed as: page by page where the result begins with `fo:root`, and else as one line.
+fn text_of(alloc: Global, laid: &Laid) -> Result<Chars, NoMemory>
+    ensures { IfOk result (λ text. encode_utf8_all text ≡ laid_text laid.now.rooted laid.now.pages) }
 {
-    if left == 0 {
-        push_run(view, "[deep]", Origin::Fixed(0))?;
-        return Ok(());
-    }
-    match kind_of(source, node) {
-        None => Ok(()),
-        Some(Kind::Root) => {
-            push_kids(source, node, left - 1, view)?;
-            Ok(())
-        }
-        Some(Kind::Element) => {
-            push_element(source, node, left - 1, view)?;
-            Ok(())
-        }
-        Some(Kind::Text) => {
-            push_text(source, node, view)?;
-            Ok(())
-        }
-        Some(Kind::Comment) => Ok(()),
-    }
-}
-
-/// Adds what the children of an element give, or an empty run into it where it has none.
-#[cycle(runs)]
-fn push_element(
-    source: &SourceTree,
-    node: NodeName,
-    left: u32,
-    view: &mut View,
-) -> Result<(), NoMemory>
-    requires { IsWithin view.old }
-    ensures { OnOk result (Grown view.old view.new (runs_within node.0 (node_runs left source.now) (kids_at source.now node.0))) }
-{
-    if kids_of(source, node).is_empty() {
-        push_run(view, "", Origin::At(CaretPlace::Into(node)))?;
+    if laid.rooted {
+        page_text(alloc, laid.pages.as_slice())
     } else {
-        push_kids(source, node, left, view)?;
+        plain_text(alloc, laid.pages.as_slice())
+    }
+}
+
+/// Adds the boundaries of pages.
+fn push_pages(pages: &[Page], boundaries: &mut Vec<Boundary>) -> Result<(), NoMemory>
+    requires { ArePagesAtStart pages.now }
+    ensures { OnOk result (boundaries_of boundaries.new.items ≡ boundaries_of boundaries.old.items ++ flat_map page_boundaries pages.now) }
+{
+    for page in pages {
+        push_lines(page.number, page.lines.as_slice(), boundaries)?;
     }
     Ok(())
 }
 
-/// Adds what the children of a node give, in order.
-#[cycle(runs)]
-fn push_kids(
-    source: &SourceTree,
-    node: NodeName,
-    left: u32,
-    view: &mut View,
+/// Adds the boundaries of the lines of a page, which are numbered from 1.
+fn push_lines(page: usize, lines: &[Line], boundaries: &mut Vec<Boundary>) -> Result<(), NoMemory>
+    requires { AreLinesAtStart lines.now }
+    ensures { OnOk result (boundaries_of boundaries.new.items ≡ boundaries_of boundaries.old.items ++ line_boundaries page 1 lines.now) }
+{
+    let mut number = 0;
+    for line in lines {
+        number += 1;
+        push_parts(page, number, line.parts.as_slice(), boundaries)?;
+    }
+    Ok(())
+}
+
+/// Adds the boundaries of the parts of a line.
+fn push_parts(
+    page: usize,
+    line: usize,
+    parts: &[Part],
+    boundaries: &mut Vec<Boundary>,
 ) -> Result<(), NoMemory>
-    requires { IsWithin view.old }
-    ensures { OnOk result (Grown view.old view.new (kid_runs (node_runs left source.now) (kids_at source.now node.0))) }
+    requires { AreAtStart parts.now }
+    ensures { OnOk result (boundaries_of boundaries.new.items ≡ boundaries_of boundaries.old.items ++ part_boundaries page line 0 parts.now) }
 {
-    for kid in kids_of(source, node) {
-        push_node(source, *kid, left, view)?;
+    let mut column = 0;
+    for part in parts {
+        column = push_part(page, line, column, part, boundaries)?;
     }
     Ok(())
 }
 
-/// Adds the run of a text node.
-fn push_text(source: &SourceTree, node: NodeName, view: &mut View) -> Result<(), NoMemory>
-    requires { IsWithin view.old }
-    ensures { OnOk result (Grown view.old view.new (text_runs_at source.now node.0)) }
+/// Adds the boundaries of a part that begins in a column: one before each of its characters, and one behind the last. Gives the
+/// column behind it.
+fn push_part(
+    page: usize,
+    line: usize,
+    column: usize,
+    part: &Part,
+    boundaries: &mut Vec<Boundary>,
+) -> Result<usize, NoMemory>
+    requires start { IsFromStart part.now }
+    requires within { column ≤ length boundaries.old.items }
+    ensures boundaries { OnOk result (boundaries_of boundaries.new.items ≡ boundaries_of boundaries.old.items ++ run_boundaries page line column part.now.start part.now.run.origin (chars (shown_bytes part.now))) }
+    ensures column { IfOk result (λ next. next ≡ column + length (chars (shown_bytes part.now))) }
+    ensures within { IfOk result (λ next. next ≤ length boundaries.new.items) }
 {
-    match source.read(Cell {
-        node,
-        facet: Facet::Text,
-    }) {
-        Some(CellValue::Text(text)) => {
-            push_run(view, text, Origin::At(CaretPlace::Text(node, 0)))?;
-            Ok(())
-        }
-        Some(CellValue::Label(_, _)) => Ok(()),
-        Some(CellValue::Kids(_)) => Ok(()),
-        Some(CellValue::Up(_)) => Ok(()),
-        Some(CellValue::Attrs(_)) => Ok(()),
-        None => Ok(()),
-    }
-}
-
-/// Adds a run: its text to the line, and a boundary before each of its characters and behind the last.
-fn push_run(view: &mut View, text: &str, origin: Origin) -> Result<(), NoMemory>
-    requires within { IsWithin view.old }
-    requires room { HasRoom (length text.now) origin }
-    ensures { OnOk result (Grown view.old view.new (run (chars text.now) (origin_of origin) ∷ [])) }
-{
+    let origin = part.run().origin;
+    let start = part.start();
+    let text = part.text();
+    let mut column = column;
     for (at, _) in text.char_indices() {
-        view.boundaries.push(Boundary {
-            column: view.column,
-            origin: behind_start(origin, at),
+        boundaries.push(Boundary {
+            page,
+            line,
+            column,
+            origin: behind_start(origin, start + at),
         })?;
-        view.column += 1;
+        column += 1;
     }
-    view.boundaries.push(Boundary {
-        column: view.column,
-        origin: behind_start(origin, text.len()),
+    boundaries.push(Boundary {
+        page,
+        line,
+        column,
+        origin: behind_start(origin, start + text.len()),
     })?;
-    push_printed(&mut view.line, text)?;
-    Ok(())
-}
-
-/// Adds a text as it is printed.
-fn push_printed(line: &mut String, text: &str) -> Result<(), NoMemory>
-    ensures { OnOk result (string_bytes line.new ≡ string_bytes line.old ++ encode_utf8_all (map printed (chars text.now))) }
-{
-    for character in text.chars() {
-        line.push(printed(character))?;
-    }
-    Ok(())
-}
-
-/// A character as it is printed: a tab and LF as a space.
-fn printed(character: char) -> char
-    ensures { result ≡ printed character }
-{
-    if character == '\t' || character == '\n' {
-        ' '
-    } else {
-        character
-    }
+    Ok(column)
 }
 
 /// Where what stands so many bytes behind the start of a run comes from.
 fn behind_start(origin: Origin, more: usize) -> Origin
     requires { HasRoom more origin }
-    ensures { origin_of result ≡ stops.behind_start more (origin_of origin) }
+    ensures { result ≡ stops.behind_start more origin }
 {
     match origin {
-        Origin::At(CaretPlace::Text(node, at)) => Origin::At(CaretPlace::Text(node, at + more)),
-        Origin::At(CaretPlace::Into(node)) => Origin::At(CaretPlace::Into(node)),
+        Origin::Text(node, at) => Origin::Text(node, at + more),
+        Origin::Attr(node, name, at) => Origin::Attr(node, name, at + more),
+        Origin::Into(node) => Origin::Into(node),
         Origin::Fixed(rule) => Origin::Fixed(rule),
-    }
-}
-
-/// What kind of node stands under a number, None where there is none.
-fn kind_of(source: &SourceTree, node: NodeName) -> Option<Kind>
-    ensures { result ≡ kind_at source.now node.0 }
-{
-    match source.read(Cell {
-        node,
-        facet: Facet::Label,
-    }) {
-        Some(CellValue::Label(kind, _)) => Some(kind),
-        Some(CellValue::Kids(_)) => None,
-        Some(CellValue::Up(_)) => None,
-        Some(CellValue::Attrs(_)) => None,
-        Some(CellValue::Text(_)) => None,
-        None => None,
-    }
-}
-
-/// The children of a node, in order.
-fn kids_of(source: &SourceTree, node: NodeName) -> &[NodeName]
-    ensures { result.now ≡ kids_at source.now node.0 }
-{
-    match source.read(Cell {
-        node,
-        facet: Facet::Kids,
-    }) {
-        Some(CellValue::Kids(kids)) => kids,
-        Some(CellValue::Label(_, _)) => &[],
-        Some(CellValue::Up(_)) => &[],
-        Some(CellValue::Attrs(_)) => &[],
-        Some(CellValue::Text(_)) => &[],
-        None => &[],
+        Origin::Computed(rule, node) => Origin::Computed(rule, node),
     }
 }

@@ -2,9 +2,12 @@ pub mod Plain
 pub mod Readings
 pub mod Renamed
 pub mod Rows
+pub mod SaidTexts
 pub mod Shown
 pub mod TextPlaces
 pub mod PlacesKept
+pub mod Encoded
+pub mod Marks
 pub mod Runs
 pub mod Steps
 pub mod Keystrokes

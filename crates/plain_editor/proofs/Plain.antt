@@ -5,7 +5,7 @@ use Rattle.std.proofs.lemmas.Str.{chars-IsAscii, IsUtf8-from_ascii}
 use Rattle.std.proofs.lemmas.Str.Ascii.{IsAscii-nil, IsAscii-cons}
 use Rattle.std.specs.Str.{IsAscii, IsUtf8}
 use Rattle.tree_lines.specs.Texts.{unescaped_behind, meant}
-use Rattle.plain_editor.specs.Input.{is_plain}
+use Rattle.plain_editor.specs.Plain.{is_plain}
 
 ascii_byte : (c : ℕ) → (nat_le 32 c && nat_le c 126) ≡ true → c < 128
 ascii_byte c h = let last = leb-true c 126 (and_parts (nat_le 32 c) (nat_le c 126) h).1 in omega arith

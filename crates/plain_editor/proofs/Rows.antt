@@ -1,107 +1,108 @@
 -- The worked examples, computed.
-use Rattle.std.proofs.Common.{◌≡◌, ℕ, ◌==◌, ◌||◌, Bool, true, false, List, [], ◌∷◌, ◌++◌, refl, ap, ◌∙◌, lit≤}
-use Rattle.std.proofs.lemmas.Bool.{false≢true}
-use Rattle.std.proofs.lemmas.Fmt.{decimal_digit}
-use Rattle.std.specs.Fmt.{decimal}
-use Rattle.std.specs.Prelude.{codes}
+use Rattle.std.proofs.Common.{◌≡◌, ℕ, ◌==◌, ◌||◌, Bool, true, false, List, [], ◌∷◌, ◌++◌, Option, Some, None, refl, ap, sym, ◌∙◌, lit≤}
+use Rattle.std.proofs.lemmas.Bool.{false≢true, and_parts}
+use Rattle.std.specs.List.{list_all, AllByRecursion}
+use Rattle.std.specs.Prelude.{IsTrue}
 use Rattle.std.specs.Str.{bytes_eq, chars, is_utf8}
+use Rattle.std.specs.Fmt.{digits}
+use Rattle.template_run.specs.Batch.{whole, batch}
 use Rattle.tree_lines.specs.Written.{Written, written_lines}
 use Rattle.tree_lines.specs.Written as written
 use Rattle.tree_lines.specs.Documents.{IsTop}
 use Rattle.source_tree.specs.Begun.{begun}
-use Rattle.plain_editor.specs.Input.{lines_of, document_head, script_head, IsInput}
+use Rattle.plain_editor.specs.Plain.{is_plain}
+use Rattle.plain_editor.specs.Sheets.{Sheet, sheet_lines, IsSheet}
+use Rattle.plain_editor.specs.Input.{document_head, script_head, IsInput}
 use Rattle.plain_editor.specs.Commands.{show_word}
-use Rattle.plain_editor.specs.Runs.{node_runs, view_runs}
 use Rattle.plain_editor.specs.Stops.{view_stops}
-use Rattle.plain_editor.specs.Editor.{NotBuilt, NoCaret, Plain, Done, Refused, spaced, reply_text, names_of, start, opened, replies}
-use Rattle.plain_editor.specs.Rows.{oak, text_of_lines, empty_document, one_text, cut_off, text_outside, another_head, empty_doc, oak_doc, plain, types_at_end, typed_at_end, types_into, typed_into, asks, told_what_it_asks, full_doc, full_lines, full_document, full_script, full_answers}
+use Rattle.plain_editor.specs.Rows.{oak, empty_document, one_text, cut_off, text_outside, another_head, empty_doc, oak_doc, plain, types_at_end, typed_at_end, types_into, typed_into, asks, told_what_it_asks, full_doc, full_document, full_script, full_answers, block_sheet, two_doc, block_input, block_script, block_answers, answered}
 
-pub empty_is_input : IsInput empty_document empty_doc (show_word ∷ [])
+plain_lines : (lines : List (List ℕ)) → list_all is_plain lines ≡ true → AllByRecursion (λ line. IsTrue (is_plain line)) lines
+plain_lines [] all = tt
+plain_lines (line ∷ lines) all = let both = and_parts (is_plain line) (list_all is_plain lines) all in (both.0, plain_lines lines both.1)
+
+pub empty_is_input : IsInput empty_document None empty_doc (show_word ∷ [])
 unfolding chars is_utf8 lib.Utf8.encode
 empty_is_input = record {
   lines = refl;
+  styled = tt;
   built = record { top = tt; parted = (tt, tt, tt); faultless = refl };
-  plain = (refl, (refl, tt));
+  plain = plain_lines (written_lines empty_doc) refl;
   short = lit≤ tt;
 }
 
-pub empty_replies : replies (opened (names_of empty_doc) (start empty_doc)) (show_word ∷ []) ≡ plain []
-unfolding view_runs node_runs view_stops begun chars is_utf8 lib.Utf8.encode
-empty_replies = refl
-
-pub oak_is_input : IsInput one_text oak_doc (show_word ∷ [])
+pub oak_is_input : IsInput one_text None oak_doc (show_word ∷ [])
 unfolding chars is_utf8 lib.Utf8.encode
 oak_is_input = record {
   lines = refl;
+  styled = tt;
   built = record { top = tt; parted = (tt, tt, tt); faultless = refl };
-  plain = (refl, (refl, (refl, tt)));
+  plain = plain_lines (written_lines oak_doc) refl;
   short = lit≤ tt;
 }
 
-pub oak_replies : replies (opened (names_of oak_doc) (start oak_doc)) (show_word ∷ []) ≡ plain oak
-unfolding view_runs node_runs view_stops begun chars is_utf8 lib.Utf8.encode
-oak_replies = refl
-
-pub types_at_end_replies : replies (opened (names_of oak_doc) (start oak_doc)) types_at_end ≡ typed_at_end
-unfolding view_runs node_runs view_stops begun chars is_utf8 lib.Utf8.encode
-types_at_end_replies = refl
-
-pub types_into_replies : replies (opened (names_of empty_doc) (start empty_doc)) types_into ≡ typed_into
-unfolding view_runs node_runs view_stops begun chars is_utf8 lib.Utf8.encode
-types_into_replies = refl
-
--- the same with the numbers 0, 1 and 2 as they are written
-abbrev told_with : List ℕ → List ℕ → List ℕ → List ℕ
-told_with zero one two =
-    reply_text (Refused NoCaret)
-    ++ (reply_text (Plain [])
-    ++ (reply_text Done
-    ++ (spaced (spaced (codes "caret") (spaced one (codes "into"))) (spaced one (spaced one zero) ++ 10 ∷ [])
-    ++ (reply_text Done
-    ++ (spaced (spaced (codes "caret") (spaced two one)) (codes "stale" ++ 10 ∷ [])
-    ++ (text_of_lines (codes "(doc" ∷ codes "-a" ∷ codes ")doc" ∷ [])
-    ++ (reply_text (Plain (97 ∷ []))
-    ++ (spaced (spaced (codes "caret") (spaced two one)) (spaced one (spaced one one) ++ 10 ∷ []) ++ []))))))))
-
-asks_with : replies (opened (names_of empty_doc) (start empty_doc)) asks ≡ told_with (decimal 0) (decimal 1) (decimal 2)
-unfolding view_runs node_runs view_stops begun chars is_utf8 lib.Utf8.encode
-asks_with = refl
-
-pub asks_replies : replies (opened (names_of empty_doc) (start empty_doc)) asks ≡ told_what_it_asks
-unfolding lib.Utf8.encode
-asks_replies =
-    asks_with ∙ ap (λ d. told_with d (decimal 1) (decimal 2)) (decimal_digit 0 (lit≤ tt)) ∙ ap (λ d. told_with (48 ∷ []) d (decimal 2)) (decimal_digit 1 (lit≤ tt))
-    ∙ ap (told_with (48 ∷ []) (49 ∷ [])) (decimal_digit 2 (lit≤ tt))
-
-pub full_is_input : IsInput full_document full_doc full_script
+pub full_is_input : IsInput full_document None full_doc full_script
 unfolding chars is_utf8 lib.Utf8.encode
 full_is_input = record {
   lines = refl;
+  styled = tt;
   built = record { top = tt; parted = ((refl, (refl, tt)), (tt, tt, tt), tt); faultless = refl };
-  plain = (refl, (refl, (refl, (refl, (refl, (refl, (refl, (refl, tt))))))));
+  plain = plain_lines (written_lines full_doc) refl;
   short = lit≤ tt;
 }
 
--- the same with the numbers 3 and 5 as they are written
-abbrev answers_with : List ℕ → List ℕ → List ℕ
-answers_with three five =
-    reply_text (Plain oak)
-    ++ (text_of_lines full_lines
-    ++ (reply_text Done
-    ++ (reply_text Done
-    ++ (spaced (spaced (codes "caret") (spaced three five)) (codes "stale" ++ 10 ∷ [])
-    ++ (reply_text (Refused NotBuilt)
-    ++ (reply_text (Plain (oak ++ (9 ∷ 92 ∷ []))) ++ []))))))
+pub block_is_sheet : IsSheet block_sheet
+unfolding chars is_utf8 lib.Utf8.encode
+block_is_sheet = record {
+  named = refl;
+  written = record {
+    top = tt;
+    parted = ((refl, (refl, (refl, tt))), ((refl, tt), (tt, (tt, ((refl, tt), (tt, tt, tt), tt), tt), tt), ((refl, tt), (tt, (tt, tt, tt), tt), tt)), tt);
+    faultless = refl;
+  };
+  plain = plain_lines (written_lines block_sheet.document) refl;
+  built = refl;
+}
 
-full_with : replies (opened (names_of full_doc) (start full_doc)) full_script ≡ answers_with (decimal 3) (decimal 5)
-unfolding view_runs node_runs view_stops begun chars is_utf8 lib.Utf8.encode
-full_with = refl
+pub block_is_input : IsInput block_input (Some block_sheet) two_doc block_script
+unfolding chars is_utf8 lib.Utf8.encode
+block_is_input = record {
+  lines = refl;
+  styled = block_is_sheet;
+  built = record { top = tt; parted = (tt, (tt, tt, (tt, tt, tt)), tt); faultless = refl };
+  plain = plain_lines (written_lines two_doc) refl;
+  short = lit≤ tt;
+}
 
-pub full_replies : replies (opened (names_of full_doc) (start full_doc)) full_script ≡ full_answers
-unfolding lib.Utf8.encode
-full_replies = full_with ∙ ap (λ d. answers_with d (decimal 5)) (decimal_digit 3 (lit≤ tt)) ∙ ap (answers_with (51 ∷ [])) (decimal_digit 5 (lit≤ tt))
+pub empty_answered : answered None empty_doc (show_word ∷ []) ≡ plain []
+unfolding digits view_stops batch whole begun chars is_utf8 lib.Utf8.encode
+empty_answered = refl
 
--- what every input has: the document's head first, a comment or the beginning of an element behind it, and the script's head
+pub oak_answered : answered None oak_doc (show_word ∷ []) ≡ plain oak
+unfolding digits view_stops batch whole begun chars is_utf8 lib.Utf8.encode
+oak_answered = refl
+
+pub at_end_answered : answered None oak_doc types_at_end ≡ typed_at_end
+unfolding digits view_stops batch whole begun chars is_utf8 lib.Utf8.encode
+at_end_answered = refl
+
+pub into_answered : answered None empty_doc types_into ≡ typed_into
+unfolding digits view_stops batch whole begun chars is_utf8 lib.Utf8.encode
+into_answered = refl
+
+pub asks_answered : answered None empty_doc asks ≡ told_what_it_asks
+unfolding digits view_stops batch whole begun chars is_utf8 lib.Utf8.encode
+asks_answered = refl
+
+pub full_answered : answered None full_doc full_script ≡ full_answers
+unfolding digits view_stops batch whole begun chars is_utf8 lib.Utf8.encode
+full_answered = refl
+
+pub block_answered : answered (Some block_sheet) two_doc block_script ≡ block_answers
+unfolding digits view_stops batch whole begun chars is_utf8 lib.Utf8.encode
+block_answered = refl
+
+-- what every input has: a head first, the document's with a comment or the beginning of an element behind it, and the script's head
 abbrev first_is : List ℕ → List (List ℕ) → Bool
 first_is head [] = false
 first_is head (line ∷ lines) = bytes_eq line head
@@ -133,20 +134,14 @@ has_script-behind : (xs ys : List (List ℕ)) → has_script ys ≡ true → has
 has_script-behind [] ys h = h
 has_script-behind (x ∷ xs) ys h = ap (λ b. bytes_eq x script_head || b) (has_script-behind xs ys h) ∙ or_true (bytes_eq x script_head)
 
-has_head : (input : List ℕ) (d : Written) (s : List (List ℕ)) → IsInput input d s → first_is document_head (lines_of input) ≡ true
-has_head input d s is = ap (first_is document_head) is.lines
+pub cut_is_none : (a : Option Sheet) (d : Written) (s : List (List ℕ)) → IsInput cut_off a d s → ⊥
+cut_is_none a d s is =
+    false≢true (ap has_script is.lines ∙ has_script-behind (sheet_lines a) (document_head ∷ (written_lines d ++ (script_head ∷ s))) (has_script-behind (document_head ∷ written_lines d) (script_head ∷ s) refl))
 
-has_top : (input : List ℕ) (d : Written) (s : List (List ℕ)) → IsInput input d s → second_is_outside (lines_of input) ≡ true
-has_top input d s is = ap second_is_outside is.lines ∙ top_is_outside document_head d (script_head ∷ s) is.built.top
+pub outside_is_none : (a : Option Sheet) (d : Written) (s : List (List ℕ)) → IsInput text_outside a d s → ⊥
+outside_is_none None d s is = false≢true (ap second_is_outside is.lines ∙ top_is_outside document_head d (script_head ∷ s) is.built.top)
+outside_is_none (Some sheet) d s is = false≢true (sym (ap (first_is document_head) is.lines))
 
-has_script_head : (input : List ℕ) (d : Written) (s : List (List ℕ)) → IsInput input d s → has_script (lines_of input) ≡ true
-has_script_head input d s is = ap has_script is.lines ∙ has_script-behind (document_head ∷ written_lines d) (script_head ∷ s) refl
-
-pub cut_is_none : (d : Written) (s : List (List ℕ)) → IsInput cut_off d s → ⊥
-cut_is_none d s is = false≢true (has_script_head cut_off d s is)
-
-pub outside_is_none : (d : Written) (s : List (List ℕ)) → IsInput text_outside d s → ⊥
-outside_is_none d s is = false≢true (has_top text_outside d s is)
-
-pub head_is_none : (d : Written) (s : List (List ℕ)) → IsInput another_head d s → ⊥
-head_is_none d s is = false≢true (has_head another_head d s is)
+pub head_is_none : (a : Option Sheet) (d : Written) (s : List (List ℕ)) → IsInput another_head a d s → ⊥
+head_is_none None d s is = false≢true (ap (first_is document_head) is.lines)
+head_is_none (Some sheet) d s is = false≢true (sym (ap (first_is script_head) is.lines))

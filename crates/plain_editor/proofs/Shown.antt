@@ -8,15 +8,18 @@ use Rattle.tree_lines.specs.Written as written
 use Rattle.tree_lines.specs.Documents.{IsDocument}
 use Rattle.tree_lines.specs.Given.{Given, count_of, with_text, given_in, spaces_of, given_of, IsWhole}
 use Rattle.tree_lines.specs.Given as given
-use Rattle.source_model.specs.Source.{Body, Forest, Source, numbers}
+use Rattle.source_model.specs.Source.{Source, numbers}
 use Rattle.source_model.specs.Source as source
 use Rattle.source_model.specs.Cells.{Spot, or_else, spot_in, spot_of}
 use Rattle.source_model.specs.PlainText.{spot_text, node_text, view_text}
 use Rattle.source_tree.specs.Begun.{numbered, begun}
 use Rattle.source_model.proofs.Spots.{if_same, if_other, spot_in-unused}
 use Rattle.source_tree.proofs.Numbering.{uses-outside}
-use Rattle.plain_editor.specs.Editor.{names_of, start}
+use Rattle.template_run.specs.Batch.{batch}
+use Rattle.plain_editor.specs.Sheets.{names_of, start}
+use Rattle.plain_editor.specs.Views.{texts_of}
 use Rattle.plain_editor.specs.Texts.{written_text}
+use Rattle.plain_editor.proofs.SaidTexts.{texts_of-batch}
 
 -- the texts of a tree, one after another
 abbrev text_in : Given → List ℕ
@@ -112,7 +115,10 @@ text_in-given_in names spaces (written.element name attributes content rest) =
 abbrev pub AreWhole : Type 0
 AreWhole = (names : List NameParts) (document : Written) → IsDocument document → IsWhole (given_of names document)
 
-pub view_text-start : AreWhole → (d : Written) → IsDocument d → view_text (start d) ≡ written_text d
+view_text-start : AreWhole → (d : Written) → IsDocument d → view_text (start None d) ≡ written_text d
 view_text-start whole d is =
-    let w = whole (names_of d) d is in
-    view_text-begun (spaces_of d) (given_of (names_of d) d) w.shallow ∙ text_in-given_in (names_of d) (spaces_of d) d
+    let w = whole (names_of None d) d is in
+    view_text-begun (spaces_of d) (given_of (names_of None d) d) w.shallow ∙ text_in-given_in (names_of None d) (spaces_of d) d
+
+pub texts_of-start : AreWhole → (names : List NameParts) (d : Written) → IsDocument d → texts_of (batch names [] (start None d)) ≡ written_text d
+texts_of-start whole names d is = texts_of-batch names (start None d) ∙ view_text-start whole d is

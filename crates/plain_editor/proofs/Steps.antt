@@ -3,6 +3,7 @@ use Rattle.std.proofs.Common.{◌≡◌, ◌≢◌, ℕ, ◌+◌, ◌<◌, ◌�
 use Rattle.std.proofs.lemmas.Bool.{and_parts, cases_eq, ltb-false, leb-false}
 use Rattle.std.proofs.lemmas.Option.{none-some}
 use Rattle.std.specs.List.{AllByRecursion, cons_option}
+use Rattle.std.specs.Option.{option_map}
 use Rattle.serna_kinds.specs.declared.cells.NodeName.{NodeName}
 use Rattle.serna_kinds.specs.Names.{NameParts}
 use Rattle.tree_lines.specs.Texts.{has_escapes, meant}
@@ -20,53 +21,48 @@ use Rattle.source_tree.specs.declared.prim.CaretPlace.TheVariants.{Text, Into}
 use Rattle.source_tree.specs.Prims.{applied, MayApply, KeepsProper, HasPlace}
 use Rattle.source_tree.specs.Places.{IsPlaceOf, carried, carried_through}
 use Rattle.source_tree.proofs.ProperKept.{proper_kept}
-use Rattle.plain_editor.specs.Runs.{Origin, At, Fixed}
-use Rattle.plain_editor.specs.Stops.{Stop}
-use Rattle.plain_editor.specs.Input.{is_plain}
+use Rattle.style_sheet.specs.declared.style.Rule.{Rule as TemplateRule}
+use Rattle.plain_editor.specs.Stops.{Stop, place_of}
+use Rattle.plain_editor.specs.Plain.{is_plain}
 use Rattle.plain_editor.specs.Commands.{Command, at_place, at_parts, read_number, typing, command_of, behind_front, parts_of, show_word, where_word, source_word, at_word, type_word}
 use Rattle.plain_editor.specs.Commands as command
 use Rattle.plain_editor.specs.Editor.{Editor, Reply, opened, stands_at, caret_of, put_first, put_at, changed, bytes_of, bytes_at, typed_at, typed, told, obeyed, step}
 use Rattle.plain_editor.specs.Sound.{IsCaretOf, IsLive, AreLive, IsInsertion, IsSound}
 use Rattle.plain_editor.proofs.Plain.{plain_meant}
+use Rattle.plain_editor.proofs.Marks.{all_filter}
 use Rattle.plain_editor.proofs.Runs.{view_live}
 use Rattle.plain_editor.proofs.PlacesKept.{place_kept, behind_piece, behind_new}
-
--- a list's members that pass a test
-kept : {A : Type 0} (P : A → Type 0) (test : A → Bool) (x : A) (xs : List A) (b : Bool) → P x → AllByRecursion P (filter test xs) → AllByRecursion P (if b then x ∷ filter test xs else filter test xs)
-kept P test x xs true p all = (p, all)
-kept P test x xs false p all = all
-
-all_filter : {A : Type 0} (P : A → Type 0) (test : A → Bool) (xs : List A) → AllByRecursion P xs → AllByRecursion P (filter test xs)
-all_filter P test [] all = tt
-all_filter P test (x ∷ xs) all = kept P test x xs (test x) all.0 (all_filter P test xs all.1)
 
 abbrev IsCaretLive : Source → List Primitive → Caret → Type 0
 IsCaretLive s since caret = IsPlaceOf s (carried_through since caret.place)
 
-caret_more : (s : Source) (since : List Primitive) (origin : Origin) (occurrence : ℕ) (carets : List Caret) → IsLive s since origin → AllByRecursion (IsCaretLive s since) carets →
-    AllByRecursion (IsCaretLive s since) (cons_option (elim origin [ At place ↦ Some (record { place = place; occurrence = occurrence }) | Fixed rule ↦ None ]) carets)
-caret_more s since (At place) occurrence carets is all = (is, all)
-caret_more s since (Fixed rule) occurrence carets is all = all
+caret_more : (s : Source) (since : List Primitive) (here : Option CaretPlace) (occurrence : ℕ) (carets : List Caret) → IsLive s since here → AllByRecursion (IsCaretLive s since) carets →
+    AllByRecursion (IsCaretLive s since) (cons_option (option_map (λ place. record { place = place; occurrence = occurrence }) here) carets)
+caret_more s since (Some place) occurrence carets is all = (is, all)
+caret_more s since None occurrence carets is all = all
 
-all_carets : (s : Source) (since : List Primitive) (stops : List Stop) → AllByRecursion (λ (stop : Stop). IsLive s since stop.origin) stops → AllByRecursion (IsCaretLive s since) (filter_map caret_of stops)
+abbrev IsStopLive : Source → List Primitive → Stop → Type 0
+IsStopLive s since stop = IsLive s since (place_of stop.origin)
+
+all_carets : (s : Source) (since : List Primitive) (stops : List Stop) → AllByRecursion (IsStopLive s since) stops → AllByRecursion (IsCaretLive s since) (filter_map caret_of stops)
 all_carets s since [] all = tt
-all_carets s since (stop ∷ stops) all = caret_more s since stop.origin stop.occurrence (filter_map caret_of stops) all.0 (all_carets s since stops all.1)
+all_carets s since (stop ∷ stops) all = caret_more s since (place_of stop.origin) stop.occurrence (filter_map caret_of stops) all.0 (all_carets s since stops all.1)
 
 -- the places after one prim more
 through_more : (since : List Primitive) (prim : Primitive) (place : CaretPlace) → carried_through (since ++ prim ∷ []) place ≡ carried prim (carried_through since place)
 through_more [] prim place = refl
 through_more (p ∷ since) prim place = through_more since prim (carried p place)
 
-live_origin : (names : List NameParts) (s : Source) (since : List Primitive) (prim : Primitive) (origin : Origin) → IsProper names s → MayApply prim s → IsLive s since origin →
-    IsLive (applied prim s) (since ++ prim ∷ []) origin
-live_origin names s since prim (At place) proper may is =
+live_place : (names : List NameParts) (s : Source) (since : List Primitive) (prim : Primitive) (here : Option CaretPlace) → IsProper names s → MayApply prim s → IsLive s since here →
+    IsLive (applied prim s) (since ++ prim ∷ []) here
+live_place names s since prim (Some place) proper may is =
     subst (IsPlaceOf (applied prim s)) (sym (through_more since prim place)) (place_kept names s prim (carried_through since place) proper may is)
-live_origin names s since prim (Fixed rule) proper may is = tt
+live_place names s since prim None proper may is = tt
 
 live_stops : (names : List NameParts) (s : Source) (since : List Primitive) (prim : Primitive) (stops : List Stop) → IsProper names s → MayApply prim s →
-    AllByRecursion (λ (stop : Stop). IsLive s since stop.origin) stops → AllByRecursion (λ (stop : Stop). IsLive (applied prim s) (since ++ prim ∷ []) stop.origin) stops
+    AllByRecursion (IsStopLive s since) stops → AllByRecursion (IsStopLive (applied prim s) (since ++ prim ∷ [])) stops
 live_stops names s since prim [] proper may all = tt
-live_stops names s since prim (stop ∷ stops) proper may all = (live_origin names s since prim stop.origin proper may all.0, live_stops names s since prim stops proper may all.1)
+live_stops names s since prim (stop ∷ stops) proper may all = (live_place names s since prim (place_of stop.origin) proper may all.0, live_stops names s since prim stops proper may all.1)
 
 live_view : (names : List NameParts) (s : Source) (since : List Primitive) (prim : Primitive) (stops : Option (List Stop)) → IsProper names s → MayApply prim s → AreLive s since stops →
     AreLive (applied prim s) (since ++ prim ∷ []) stops
@@ -106,7 +102,7 @@ put_at_sound names editor page line column None sound all = sound
 put_at_sound names editor page line column (Some stops) sound all =
     let here : List Stop = filter (stands_at page line column) stops in
     put_first_sound names editor here (filter_map caret_of here) sound
-    (all_carets editor.source editor.since here (all_filter (λ (stop : Stop). IsLive editor.source editor.since stop.origin) (stands_at page line column) stops all))
+    (all_carets editor.source editor.since here (all_filter (IsStopLive editor.source editor.since) (stands_at page line column) stops all))
 
 -- the children of a node of a proper source
 pub or_spot : (o p : Option Spot) (spot : Spot) → or_else o p ≡ Some spot → (o ≡ Some spot) ⊎ (p ≡ Some spot)
@@ -228,16 +224,16 @@ told_sound : (names : List NameParts) (editor : Editor) (caret : Option Caret) �
 told_sound names editor None sound = sound
 told_sound names editor (Some caret) sound = sound
 
-pub obeyed_sound : (names : List NameParts) (editor : Editor) (said_command : Command) → IsSaid said_command → IsSound names editor → IsSound names (obeyed editor said_command).0
-obeyed_sound names editor command.Show is sound = record { proper = sound.proper; caret = sound.caret; stops = view_live editor.source; insertions = tt }
-obeyed_sound names editor (command.At page line column) is sound = put_at_sound names editor page line column editor.stops sound sound.stops
-obeyed_sound names editor (command.Typing text) is sound = typed_sound names editor text editor.caret sound sound.caret is
-obeyed_sound names editor command.Where is sound = told_sound names editor editor.caret sound
-obeyed_sound names editor command.Tree is sound = sound
-obeyed_sound names editor command.NotBuilt is sound = sound
+pub obeyed_sound : (rules : List TemplateRule) (names : List NameParts) (editor : Editor) (said_command : Command) → IsSaid said_command → IsSound names editor → IsSound names (obeyed rules editor said_command).0
+obeyed_sound rules names editor command.Show is sound = record { proper = sound.proper; caret = sound.caret; stops = view_live editor.names rules editor.source; insertions = tt }
+obeyed_sound rules names editor (command.At page line column) is sound = put_at_sound names editor page line column editor.stops sound sound.stops
+obeyed_sound rules names editor (command.Typing text) is sound = typed_sound names editor text editor.caret sound sound.caret is
+obeyed_sound rules names editor command.Where is sound = told_sound names editor editor.caret sound
+obeyed_sound rules names editor command.Tree is sound = sound
+obeyed_sound rules names editor command.NotBuilt is sound = sound
 
-pub step_sound : (names : List NameParts) (editor : Editor) (line : List ℕ) → IsSound names editor → IsSound names (step editor line).0
-step_sound names editor line sound = obeyed_sound names editor (command_of line) (said line) sound
+pub step_sound : (rules : List TemplateRule) (names : List NameParts) (editor : Editor) (line : List ℕ) → IsSound names editor → IsSound names (step rules editor line).0
+step_sound rules names editor line sound = obeyed_sound rules names editor (command_of line) (said line) sound
 
 pub opened_sound : (names : List NameParts) (s : Source) → IsProper names s → IsSound names (opened names s)
 opened_sound names s proper = record { proper = proper; caret = tt; stops = tt; insertions = tt }

@@ -4,7 +4,7 @@ use Rattle.std.specs.Prelude.{ℕ, ◌+◌, ◌*◌, ◌-◌, ◌==◌, ◌&&◌
 use Rattle.std.specs.List.{onto_first, list_all}
 use Rattle.serna_kinds.specs.Qualified.{is_digit}
 use Rattle.tree_lines.specs.Texts.{has_escapes, meant}
-use Rattle.plain_editor.specs.Input.{is_plain}
+use Rattle.plain_editor.specs.Plain.{is_plain}
 
 pub data Command : Type 0 where
   Show : Command

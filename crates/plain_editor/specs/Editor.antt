@@ -1,14 +1,11 @@
 -- The plain editor: it holds one source, changes it at each accepted keystroke at the place of the caret alone, and at every `show`
--- gives the text of the whole source anew (this project's own).
-use Rattle.std.specs.Prelude.{ℕ, ◌+◌, nat_lt, nat_le, Bool, false, List, [], ◌∷◌, ◌++◌, filter, filter_map, length, Option, Some, None, codes, decimal, encode_utf8_all, if◌then◌else◌, ◌&&◌, ◌||◌, ◌==◌, map}
+-- gives the view of the whole source anew. `rules` are those of the stylesheet, which never change (this project's own).
+use Rattle.std.specs.Prelude.{ℕ, ◌+◌, nat_lt, nat_le, Bool, false, List, [], ◌∷◌, ◌++◌, filter, filter_map, length, Option, Some, None, codes, decimal, encode_utf8_all, if◌then◌else◌, ◌&&◌, ◌==◌}
+use Rattle.std.specs.Option.{option_map}
 use Rattle.serna_kinds.specs.Names.{NameParts}
-use Rattle.tree_lines.specs.Written.{Written, written_lines}
-use Rattle.tree_lines.specs.Tokens.{names_with}
-use Rattle.tree_lines.specs.Given.{spaces_of, given_of}
 use Rattle.source_model.specs.Source.{Source}
 use Rattle.source_model.specs.Cells.{named}
 use Rattle.source_model.specs.Changes.{text_at}
-use Rattle.source_tree.specs.Begun.{begun}
 use Rattle.source_tree.specs.declared.prim.CaretPlace.{CaretPlace}
 use Rattle.source_tree.specs.declared.prim.CaretPlace.TheVariants.{Text, Into}
 use Rattle.source_tree.specs.declared.prim.Caret.{Caret}
@@ -19,19 +16,14 @@ use Rattle.source_tree.specs.Prims.{applied}
 use Rattle.source_tree.specs.Places.{carried_through}
 use Rattle.source_tree.specs.Unnumbered.{document_of}
 use Rattle.tree_lines.specs.Canonical.{canonical_text}
-use Rattle.plain_editor.specs.Runs.{Origin, texts_of, view_runs}
-use Rattle.plain_editor.specs.Runs as origin
-use Rattle.plain_editor.specs.Stops.{Stop, is_same_place, view_stops}
+use Rattle.style_sheet.specs.declared.style.Rule.{Rule as TemplateRule}
+use Rattle.result_origin.specs.declared.origin.Origin.{Origin}
+use Rattle.result_origin.specs.declared.origin.Origin.TheVariants as origin
+use Rattle.page_print.specs.Print.{spaced}
+use Rattle.plain_editor.specs.Views.{view_text}
+use Rattle.plain_editor.specs.Stops.{Stop, is_same_place, place_of, view_stops}
 use Rattle.plain_editor.specs.Commands.{Command, command_of}
 use Rattle.plain_editor.specs.Commands as command
-
--- the table of the names of a document's elements and attributes
-abbrev pub names_of : Written → List NameParts
-names_of document = names_with [] (written_lines document)
-
--- the source that the editor starts with
-abbrev pub start : Written → Source
-start document = begun (spaces_of document) (given_of (names_of document) document)
 
 -- the editor's state: the table of names, the source, how many changes it has accepted, the caret, the stops of the last show, and the prims since then
 pub record Editor : Type 0 where
@@ -52,6 +44,8 @@ pub data Rule : Type 0 where
   NoView : Rule
   NoPlace : Rule
   FixedText : Rule
+  ComputedText : Rule
+  AttributeText : Rule
   NoCaret : Rule
   Long : Rule
   Nodes : Rule
@@ -62,6 +56,8 @@ rule_word NotBuilt = codes "not-built"
 rule_word NoView = codes "no-view"
 rule_word NoPlace = codes "no-place"
 rule_word FixedText = codes "fixed"
+rule_word ComputedText = codes "computed"
+rule_word AttributeText = codes "attribute"
 rule_word NoCaret = codes "no-caret"
 rule_word Long = codes "long"
 rule_word Nodes = codes "nodes"
@@ -74,17 +70,13 @@ pub data Standing : Type 0 where
   Hidden : Standing
   Shown : ℕ → ℕ → ℕ → Standing
 
--- what a command is answered: the text of a view, the place of a caret and where it stands, the tree lines, that it was done, or why not
+-- what a command is answered: the printed view, the place of a caret and where it stands, the tree lines, that it was done, or why not
 pub data Reply : Type 0 where
-  Plain : List ℕ → Reply
+  View : List ℕ → Reply
   Told : CaretPlace → Standing → Reply
   Lines : List ℕ → Reply
   Done : Reply
   Refused : Rule → Reply
-
--- parts with a space between them
-abbrev pub spaced : List ℕ → List ℕ → List ℕ
-spaced before behind = before ++ 32 ∷ behind
 
 abbrev pub place_words : CaretPlace → List ℕ
 place_words (Text number at) = spaced (codes "caret") (spaced (decimal number.0) (decimal at))
@@ -95,22 +87,18 @@ standing_words Stale = codes "stale"
 standing_words Hidden = codes "hidden"
 standing_words (Shown page line column) = spaced (decimal page) (spaced (decimal line) (decimal column))
 
--- a character as it is printed in a line: a tab and LF as a space
-abbrev pub printed : ℕ → ℕ
-printed c = if c == 9 || c == 10 then 32 else c
-
 -- what is written for a reply, each line with its LF
 abbrev pub reply_text : Reply → List ℕ
-reply_text (Plain text) = codes "plain " ++ (encode_utf8_all (map printed text) ++ 10 ∷ [])
+reply_text (View text) = text
 reply_text (Told place standing) = spaced (place_words place) (standing_words standing ++ 10 ∷ [])
 reply_text (Lines text) = text
 reply_text Done = codes "ok" ++ 10 ∷ []
 reply_text (Refused rule) = codes "refused " ++ (rule_word rule ++ 10 ∷ [])
 
--- `show`: the text of the view of the present source; its stops are kept
-abbrev pub shown : Editor → Editor
-shown editor =
-    record { names = editor.names; source = editor.source; revision = editor.revision; caret = editor.caret; stops = Some (view_stops editor.source); since = [] }
+-- `show`: the view of the present source; its stops are kept
+abbrev pub shown : List TemplateRule → Editor → Editor
+shown rules editor =
+    record { names = editor.names; source = editor.source; revision = editor.revision; caret = editor.caret; stops = Some (view_stops editor.names rules editor.source); since = [] }
 
 -- the editor with another caret
 abbrev pub with_caret : Editor → CaretPlace → ℕ → Editor
@@ -128,14 +116,22 @@ stands_at page line column stop = stop.page == page && stop.line == line && stop
 
 -- the caret that a stop takes, where it is at a place
 abbrev pub caret_of : Stop → Option Caret
-caret_of stop = elim stop.origin [ origin.At place ↦ Some (record { place = place; occurrence = stop.occurrence }) | origin.Fixed rule ↦ None ]
+caret_of stop = option_map (λ place. record { place = place; occurrence = stop.occurrence }) (place_of stop.origin)
+
+-- why no caret is put at an origin
+abbrev pub refused_by : Origin → Rule
+refused_by (origin.Text number at) = NoPlace
+refused_by (origin.Attr number name at) = AttributeText
+refused_by (origin.Into number) = NoPlace
+refused_by (origin.Fixed rule) = FixedText
+refused_by (origin.Computed rule node) = ComputedText
 
 -- of the stops that are there, the first that is at a place is taken, and the place is carried through the prims since the show; where
 -- none is at a place, the first says why
 abbrev pub put_first : Editor → List Stop → List Caret → Editor × Reply
 put_first editor here (caret ∷ carets) = (with_caret editor (carried_through editor.since caret.place) caret.occurrence, Done)
 put_first editor [] [] = (editor, Refused NoPlace)
-put_first editor (stop ∷ stops) [] = (editor, Refused FixedText)
+put_first editor (stop ∷ stops) [] = (editor, Refused (refused_by stop.origin))
 
 abbrev pub put_among : Editor → List Stop → Editor × Reply
 put_among editor here = put_first editor here (filter_map caret_of here)
@@ -186,7 +182,7 @@ nearest last occurrence [] = last
 nearest last occurrence (stop ∷ stops) = if stop.occurrence == occurrence then Some stop else nearest (Some stop) occurrence stops
 
 abbrev pub stands_for : CaretPlace → Stop → Bool
-stands_for place stop = elim stop.origin [ origin.At other ↦ is_same_place place other | origin.Fixed rule ↦ false ]
+stands_for place stop = elim (place_of stop.origin) [ Some other ↦ is_same_place place other | None ↦ false ]
 
 abbrev pub standing_at : Option Stop → Standing
 standing_at None = Hidden
@@ -207,19 +203,19 @@ told editor None = (editor, Refused NoCaret)
 told editor (Some caret) = (editor, Told caret.place (standing caret editor.stops editor.since))
 
 -- what a command makes of the editor, and what it is answered
-abbrev pub obeyed : Editor → Command → Editor × Reply
-obeyed editor command.Show = (shown editor, Plain (texts_of (view_runs editor.source)))
-obeyed editor (command.At page line column) = put_at editor page line column editor.stops
-obeyed editor (command.Typing text) = typed editor text editor.caret
-obeyed editor command.Where = told editor editor.caret
-obeyed editor command.Tree = (editor, Lines (canonical_text editor.names editor.source.spaces (document_of editor.source)))
-obeyed editor command.NotBuilt = (editor, Refused NotBuilt)
+abbrev pub obeyed : List TemplateRule → Editor → Command → Editor × Reply
+obeyed rules editor command.Show = (shown rules editor, View (view_text editor.names rules editor.source))
+obeyed rules editor (command.At page line column) = put_at editor page line column editor.stops
+obeyed rules editor (command.Typing text) = typed editor text editor.caret
+obeyed rules editor command.Where = told editor editor.caret
+obeyed rules editor command.Tree = (editor, Lines (canonical_text editor.names editor.source.spaces (document_of editor.source)))
+obeyed rules editor command.NotBuilt = (editor, Refused NotBuilt)
 
 -- what a command line makes of the editor, and what it is answered
-abbrev pub step : Editor → List ℕ → Editor × Reply
-step editor line = obeyed editor (command_of line)
+abbrev pub step : List TemplateRule → Editor → List ℕ → Editor × Reply
+step rules editor line = obeyed rules editor (command_of line)
 
 -- what a script is answered, command by command
-abbrev pub replies : Editor → List (List ℕ) → List ℕ
-replies editor [] = []
-replies editor (line ∷ script) = reply_text (step editor line).1 ++ replies (step editor line).0 script
+abbrev pub replies : List TemplateRule → Editor → List (List ℕ) → List ℕ
+replies rules editor [] = []
+replies rules editor (line ∷ script) = reply_text (step rules editor line).1 ++ replies rules (step rules editor line).0 script

@@ -1,9 +1,11 @@
+pub mod Plain
+pub mod Sheets
 pub mod Commands
 pub mod Editor
 pub mod Input
 pub mod Keystrokes
 pub mod Rows
-pub mod Runs
+pub mod Views
 pub mod Sound
 pub mod Stops
 pub mod Texts

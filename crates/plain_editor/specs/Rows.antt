@@ -1,8 +1,10 @@
--- Worked examples of the definitions: three inputs with what is answered to them, three that are no input, and scripts that type.
-use Rattle.std.specs.Prelude.{ℕ, List, [], ◌∷◌, ◌++◌, codes}
-use Rattle.tree_lines.specs.Written.{Written, Attribute}
+-- Worked examples of the definitions: four inputs with what is answered to them, three that are no input, and scripts that type.
+use Rattle.std.specs.Prelude.{ℕ, List, [], ◌∷◌, ◌++◌, Option, Some, codes}
+use Rattle.tree_lines.specs.Written.{Written, Attribute, written_lines}
 use Rattle.tree_lines.specs.Written as written
 use Rattle.plain_editor.specs.Input.{document_head, script_head}
+use Rattle.plain_editor.specs.Sheets.{Sheet, sheet_lines, names_of, rules_for, start}
+use Rattle.plain_editor.specs.Editor.{opened, replies}
 use Rattle.plain_editor.specs.Commands.{show_word}
 
 -- `doc` and `Oak`
@@ -90,3 +92,48 @@ full_document = text_of_lines (document_head ∷ (full_lines ++ (script_head ∷
 abbrev pub full_answers : List ℕ
 full_answers =
     text_of_lines (codes "plain Oak" ∷ (full_lines ++ (codes "ok" ∷ codes "ok" ∷ codes "caret 3 5 stale" ∷ codes "refused not-built" ∷ codes "plain Oak \\" ∷ [])))
+
+-- a stylesheet with two rules: the document node gives one flow of a page, and `p` a block with a text of the rule in front of its own
+abbrev pub leaf : List ℕ → Written → Written
+leaf name rest = written.element name [] written.end rest
+
+abbrev pub apply_templates : Written → Written
+apply_templates rest = leaf (codes "xsl:apply-templates") rest
+
+abbrev pub template : List ℕ → Written → Written → Written
+template match content rest = written.element (codes "xsl:template") (attribute (codes "match") match ∷ []) content rest
+
+abbrev pub block_sheet : Sheet
+block_sheet = record {
+  name = codes "t";
+  document = written.element (codes "xsl:stylesheet")
+      (attribute (codes "version") (codes "1.0") ∷ attribute (codes "xmlns:xsl") (codes "http://www.w3.org/1999/XSL/Transform")
+      ∷ attribute (codes "xmlns:fo") (codes "http://www.w3.org/1999/XSL/Format") ∷ [])
+      (template (codes "/")
+      (written.element (codes "fo:root") [] (written.element (codes "fo:page-sequence") []
+      (written.element (codes "fo:flow") (attribute (codes "flow-name") (codes "xsl-region-body") ∷ []) (apply_templates written.end) written.end)
+      written.end) written.end)
+      (template (codes "p") (written.element (codes "fo:block") [] (written.text (codes "x:") (apply_templates written.end)) written.end) written.end))
+      written.end;
+}
+
+-- a document with two `p`, the second of them empty; and a script that shows it, types into the empty one, tries to put the caret at the
+-- rule's text, and shows it again
+abbrev pub two_doc : Written
+two_doc = written.element doc [] (written.element (codes "p") [] (written.text oak written.end) (leaf (codes "p") written.end)) written.end
+
+abbrev pub block_script : List (List ℕ)
+block_script = show_word ∷ codes "at 1 2 2" ∷ codes "type Red" ∷ codes "at 1 1 0" ∷ show_word ∷ []
+
+abbrev pub block_input : List ℕ
+block_input =
+    text_of_lines (sheet_lines (Some block_sheet) ++ (document_head ∷ (written_lines two_doc ++ (script_head ∷ block_script))))
+
+abbrev pub block_answers : List ℕ
+block_answers =
+    text_of_lines (codes "page 1" ∷ codes "line 1 0 0 x:Oak" ∷ codes "line 2 0 14400 x:" ∷ codes "ok" ∷ codes "ok" ∷ codes "refused fixed"
+    ∷ codes "page 1" ∷ codes "line 1 0 0 x:Oak" ∷ codes "line 2 0 14400 x:Red" ∷ [])
+
+-- what the editor of a stylesheet and a document answers to a script
+abbrev pub answered : Option Sheet → Written → List (List ℕ) → List ℕ
+answered style document script = replies (rules_for style document) (opened (names_of style document) (start style document)) script

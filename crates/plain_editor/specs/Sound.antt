@@ -8,8 +8,8 @@ use Rattle.source_tree.specs.declared.prim.Caret.{Caret}
 use Rattle.source_tree.specs.declared.prim.Primitive.{Primitive}
 use Rattle.source_tree.specs.declared.prim.Primitive.TheVariants.{InsertText, RemoveText, InsertChild, RemoveChild}
 use Rattle.source_tree.specs.Places.{IsPlaceOf, carried_through}
-use Rattle.plain_editor.specs.Runs.{Origin, At, Fixed}
-use Rattle.plain_editor.specs.Stops.{Stop}
+use Rattle.source_tree.specs.declared.prim.CaretPlace.{CaretPlace}
+use Rattle.plain_editor.specs.Stops.{Stop, place_of}
 use Rattle.plain_editor.specs.Editor.{Editor}
 
 abbrev pub IsCaretOf : Source → Option Caret → Type 0
@@ -17,13 +17,13 @@ IsCaretOf source None = Unit {0}
 IsCaretOf source (Some caret) = IsPlaceOf source caret.place
 
 -- where a stop is at a place, the place, carried through the prims since, is one of the source
-abbrev pub IsLive : Source → List Primitive → Origin → Type 0
-IsLive source since (At place) = IsPlaceOf source (carried_through since place)
-IsLive source since (Fixed rule) = Unit {0}
+abbrev pub IsLive : Source → List Primitive → Option CaretPlace → Type 0
+IsLive source since (Some place) = IsPlaceOf source (carried_through since place)
+IsLive source since None = Unit {0}
 
 abbrev pub AreLive : Source → List Primitive → Option (List Stop) → Type 0
 AreLive source since None = Unit {0}
-AreLive source since (Some stops) = AllByRecursion (λ (stop : Stop). IsLive source since stop.origin) stops
+AreLive source since (Some stops) = AllByRecursion (λ (stop : Stop). IsLive source since (place_of stop.origin)) stops
 
 -- the prims since the last show are insertions
 abbrev pub IsInsertion : Primitive → Type 0

@@ -5,28 +5,33 @@ use Rattle.std.proofs.lemmas.List.{append-nil}
 use Rattle.tree_lines.specs.Written.{Written}
 use Rattle.serna_outside.specs.Outside.{Appends, Consumes, IsAtEnd, Rose}
 use Rattle.plain_editor.specs.Input.{IsInput}
-use Rattle.plain_editor.specs.Editor.{names_of, start, opened, replies}
+use Rattle.plain_editor.specs.Sheets.{Sheet}
 use Rattle.plain_editor.proofs.Readings.{AreToldByLines, one_reading}
 use Rattle.serna_main.specs.declared.status.Status.{Status}
 use Rattle.serna_main.specs.declared.status.Status.TheVariants as status
-use Rattle.serna_main.specs.Outside.{AppendsFront}
-use Rattle.serna_main.specs.Out.{refusal, IsRefused, IsReplied, IsAnswered, IsClosed}
-use Rattle.serna_main.proofs.Bytes.{front_all}
+use Rattle.page_print.specs.Outside.{AppendsFront}
+use Rattle.serna_main.specs.Out.{refusal, answers, IsRefused, IsReplied, IsAnswered, IsClosed}
+use Rattle.page_print.proofs.Bytes.{front_all}
+
+-- equal readings are answered alike
+same_answers : (a b : Option Sheet) (d e : Written) (s t : List (List ℕ)) → a ≡ b → d ≡ e → s ≡ t → answers b e t ≡ answers a d s
+same_answers a b d e s t style document script =
+    ap (λ c. answers c e t) (sym style) ∙ ap (λ c. answers a c t) (sym document) ∙ ap (answers a d) (sym script)
 
 -- what is a front of the replies to one reading is a front of whatever is out for the input
-pub front_accepted : AreToldByLines → (input : List ℕ) (d : Written) (s : List (List ℕ)) (h h₁ : Option (List ℕ)) → IsInput input d s → AppendsFront h h₁ (replies (opened (names_of d) (start d)) s) →
+pub front_accepted : AreToldByLines → (input : List ℕ) (a : Option Sheet) (d : Written) (s : List (List ℕ)) (h h₁ : Option (List ℕ)) → IsInput input a d s → AppendsFront h h₁ (answers a d s) →
     (bytes : List ℕ) (other : Status) → IsReplied input bytes other → AppendsFront h h₁ bytes
-front_accepted told input d s h h₁ is f bytes status.Ok out =
-    let same = one_reading told input d out.0 s out.1 is out.2 in
-    subst (AppendsFront h h₁) (sym (out.3 ∙ ap (λ e. replies (opened (names_of e) (start e)) out.1) (sym same.0) ∙ ap (replies (opened (names_of d) (start d))) (sym same.1))) f
-front_accepted told input d s h h₁ is f bytes status.InputRefused out = absurd (out.0 d s is)
-front_accepted told input d s h h₁ is f bytes status.BadWords out = absurd out
-front_accepted told input d s h h₁ is f bytes status.ReadFault out = absurd out
-front_accepted told input d s h h₁ is f bytes status.WriteFault out = absurd out
-front_accepted told input d s h h₁ is f bytes status.NoMemory out = absurd out
+front_accepted told input a d s h h₁ is f bytes status.Ok out =
+    let same = one_reading told input a out.0 d out.1 s out.2 is out.3 in
+    subst (AppendsFront h h₁) (sym (out.4 ∙ same_answers a out.0 d out.1 s out.2 same.0 same.1 same.2)) f
+front_accepted told input a d s h h₁ is f bytes status.InputRefused out = absurd (out.0 a d s is)
+front_accepted told input a d s h h₁ is f bytes status.BadWords out = absurd out
+front_accepted told input a d s h h₁ is f bytes status.ReadFault out = absurd out
+front_accepted told input a d s h h₁ is f bytes status.WriteFault out = absurd out
+front_accepted told input a d s h h₁ is f bytes status.NoMemory out = absurd out
 
 pub front_refused : (input : List ℕ) (h h₁ : Option (List ℕ)) → IsRefused input → AppendsFront h h₁ refusal → (bytes : List ℕ) (other : Status) → IsReplied input bytes other → AppendsFront h h₁ bytes
-front_refused input h h₁ is f bytes status.Ok out = absurd (is out.0 out.1 out.2)
+front_refused input h h₁ is f bytes status.Ok out = absurd (is out.0 out.1 out.2 out.3)
 front_refused input h h₁ is f bytes status.InputRefused out = subst (AppendsFront h h₁) (sym out.1) f
 front_refused input h h₁ is f bytes status.BadWords out = absurd out
 front_refused input h h₁ is f bytes status.ReadFault out = absurd out
@@ -34,30 +39,30 @@ front_refused input h h₁ is f bytes status.WriteFault out = absurd out
 front_refused input h h₁ is f bytes status.NoMemory out = absurd out
 
 -- a script that was answered whole, and closed
-pub answered_ok : AreToldByLines → (input : List ℕ) (d : Written) (s : List (List ℕ)) (h h₁ : Option (List ℕ)) (f f₁ : ℕ) (finished : Type 0) (ended : Status) → IsInput input d s →
-    Appends h h₁ (replies (opened (names_of d) (start d)) s) → IsClosed status.Ok ended f f₁ finished → IsAnswered input ended h h₁ f f₁ finished
-answered_ok told input d s h h₁ f f₁ finished status.Ok is written closed = record {
-  out = λ w. (replies (opened (names_of d) (start d)) s, (d, s, is, refl), written);
-  front = front_accepted told input d s h h₁ is (front_all h h₁ (replies (opened (names_of d) (start d)) s) written);
+pub answered_ok : AreToldByLines → (input : List ℕ) (a : Option Sheet) (d : Written) (s : List (List ℕ)) (h h₁ : Option (List ℕ)) (f f₁ : ℕ) (finished : Type 0) (ended : Status) → IsInput input a d s →
+    Appends h h₁ (answers a d s) → IsClosed status.Ok ended f f₁ finished → IsAnswered input ended h h₁ f f₁ finished
+answered_ok told input a d s h h₁ f f₁ finished status.Ok is written closed = record {
+  out = λ w. (answers a d s, (a, d, s, is, refl), written);
+  front = front_accepted told input a d s h h₁ is (front_all h h₁ (answers a d s) written);
   closed = λ e. closed.0;
   kept = λ e. closed.1;
   write_fault = λ e. cc;
   no_read_fault = λ e. cc;
   no_words = λ e. cc;
 }
-answered_ok told input d s h h₁ f f₁ finished status.WriteFault is written closed = record {
+answered_ok told input a d s h h₁ f f₁ finished status.WriteFault is written closed = record {
   out = λ w. absurd w;
-  front = front_accepted told input d s h h₁ is (front_all h h₁ (replies (opened (names_of d) (start d)) s) written);
+  front = front_accepted told input a d s h h₁ is (front_all h h₁ (answers a d s) written);
   closed = λ e. cc;
   kept = λ e. cc;
   write_fault = λ e. closed;
   no_read_fault = λ e. cc;
   no_words = λ e. cc;
 }
-answered_ok told input d s h h₁ f f₁ finished status.BadWords is written closed = absurd closed
-answered_ok told input d s h h₁ f f₁ finished status.InputRefused is written closed = absurd closed
-answered_ok told input d s h h₁ f f₁ finished status.ReadFault is written closed = absurd closed
-answered_ok told input d s h h₁ f f₁ finished status.NoMemory is written closed = absurd closed
+answered_ok told input a d s h h₁ f f₁ finished status.BadWords is written closed = absurd closed
+answered_ok told input a d s h h₁ f f₁ finished status.InputRefused is written closed = absurd closed
+answered_ok told input a d s h h₁ f f₁ finished status.ReadFault is written closed = absurd closed
+answered_ok told input a d s h h₁ f f₁ finished status.NoMemory is written closed = absurd closed
 
 -- a run that want of memory ended
 pub answered_no_memory : (input : List ℕ) (h h₁ : Option (List ℕ)) (f f₁ : ℕ) (finished : Type 0) (ended : Status) →
@@ -118,8 +123,8 @@ whole_of bytes input rest is at_end = elim (cases_lt 16384 (length bytes)) [
 
 out_whole : (bytes input : List ℕ) (ended : Status) (h h₁ : Option (List ℕ)) → Whole bytes input → ((b : List ℕ) × IsReplied bytes b ended × Appends h h₁ b) → (b : List ℕ) × IsReplied input b ended × Appends h h₁ b
 out_whole bytes input ended h h₁ (read_whole is) out = (out.0, subst (λ i. IsReplied i out.0 ended) (sym is) out.1, out.2)
-out_whole bytes input status.Ok h h₁ (too_long long longer) out = let short = out.1.2.short in absurd (omega arith)
-out_whole bytes input status.InputRefused h h₁ (too_long long longer) out = (out.0, ((λ d s is. let short = is.short in absurd (omega arith)), out.1.1), out.2)
+out_whole bytes input status.Ok h h₁ (too_long long longer) out = let short = out.1.3.short in absurd (omega arith)
+out_whole bytes input status.InputRefused h h₁ (too_long long longer) out = (out.0, ((λ a d s is. let short = is.short in absurd (omega arith)), out.1.1), out.2)
 out_whole bytes input status.BadWords h h₁ (too_long long longer) out = absurd out.1
 out_whole bytes input status.ReadFault h h₁ (too_long long longer) out = absurd out.1
 out_whole bytes input status.WriteFault h h₁ (too_long long longer) out = absurd out.1
@@ -127,8 +132,8 @@ out_whole bytes input status.NoMemory h h₁ (too_long long longer) out = absurd
 
 front_whole : (bytes input : List ℕ) (h h₁ : Option (List ℕ)) → Whole bytes input → ((b : List ℕ) (other : Status) → IsReplied bytes b other → AppendsFront h h₁ b) → (b : List ℕ) (other : Status) → IsReplied input b other → AppendsFront h h₁ b
 front_whole bytes input h h₁ (read_whole is) front b other out = front b other (subst (λ i. IsReplied i b other) is out)
-front_whole bytes input h h₁ (too_long long longer) front b status.Ok out = let short = out.2.short in absurd (omega arith)
-front_whole bytes input h h₁ (too_long long longer) front b status.InputRefused out = front b status.InputRefused ((λ d s is. let short = is.short in absurd (omega arith)), out.1)
+front_whole bytes input h h₁ (too_long long longer) front b status.Ok out = let short = out.3.short in absurd (omega arith)
+front_whole bytes input h h₁ (too_long long longer) front b status.InputRefused out = front b status.InputRefused ((λ a d s is. let short = is.short in absurd (omega arith)), out.1)
 front_whole bytes input h h₁ (too_long long longer) front b status.BadWords out = absurd out
 front_whole bytes input h h₁ (too_long long longer) front b status.ReadFault out = absurd out
 front_whole bytes input h h₁ (too_long long longer) front b status.WriteFault out = absurd out
@@ -148,4 +153,4 @@ front_of_left (Some input) (Some rest) bytes h h₁ consumed at_end front = fron
 
 -- an input that was answered with Ok was read whole
 pub end_of_left : (left left₁ : Option (List ℕ)) (bytes : List ℕ) (h h₁ : Option (List ℕ)) → (length bytes ≤ 16384 → IsAtEnd left₁) → ((b : List ℕ) × IsReplied bytes b status.Ok × Appends h h₁ b) → IsAtEnd left₁
-end_of_left left left₁ bytes h h₁ at_end out = at_end out.1.2.short
+end_of_left left left₁ bytes h h₁ at_end out = at_end out.1.3.short

@@ -3,7 +3,7 @@ use Rattle.std.proofs.Common.{◌≡◌, ◌≢◌, ℕ, List, [], ◌∷◌, Op
 use Rattle.serna_outside.specs.Outside.{Appends, Rose}
 use Rattle.serna_main.specs.declared.status.Status.{Status}
 use Rattle.serna_main.specs.declared.status.Status.TheVariants as status
-use Rattle.serna_main.specs.Outside.{AppendsFront}
+use Rattle.page_print.specs.Outside.{AppendsFront}
 use Rattle.serna_main.specs.Out.{IsReplied, IsOut, IsWhole, IsEnded, IsAccepted, words_refusal}
 
 -- with no words, what is out is what is replied
@@ -64,7 +64,7 @@ complete_at : (input : List ℕ) (ended : Status) (h h₁ : Option (List ℕ)) (
     (ended ≡ status.Ok) ⊎ (ended ≡ status.NoMemory)
 complete_at input status.Ok h h₁ f f₁ k k₁ out words read write accepted calm = inl refl
 complete_at input status.BadWords h h₁ f f₁ k k₁ out words read write accepted calm = absurd (words refl)
-complete_at input status.InputRefused h h₁ f f₁ k k₁ out words read write accepted calm = let refused = out tt in absurd (refused.1.0 accepted.0 accepted.1 accepted.2)
+complete_at input status.InputRefused h h₁ f f₁ k k₁ out words read write accepted calm = let refused = out tt in absurd (refused.1.0 accepted.0 accepted.1 accepted.2 accepted.3)
 complete_at input status.ReadFault h h₁ f f₁ k k₁ out words read write accepted calm = absurd (calm.0 (read refl))
 complete_at input status.WriteFault h h₁ f f₁ k k₁ out words read write accepted calm = absurd (calm.1 (write refl))
 complete_at input status.NoMemory h h₁ f f₁ k k₁ out words read write accepted calm = inr refl

@@ -2,9 +2,10 @@
 use Rattle.std.specs.Prelude.{◌≡◌, ◌≢◌, ℕ, List, [], ◌∷◌, ◌++◌, Option, codes}
 use Rattle.tree_lines.specs.Written.{Written}
 use Rattle.plain_editor.specs.Input.{IsInput}
-use Rattle.plain_editor.specs.Editor.{names_of, start, opened, replies}
+use Rattle.plain_editor.specs.Sheets.{Sheet, names_of, rules_for, start}
+use Rattle.plain_editor.specs.Editor.{opened, replies}
 use Rattle.serna_outside.specs.Outside.{Appends, Rose}
-use Rattle.serna_main.specs.Outside.{AppendsFront}
+use Rattle.page_print.specs.Outside.{AppendsFront}
 use Rattle.serna_main.specs.declared.status.Status.{Status}
 use Rattle.serna_main.specs.declared.status.Status.TheVariants as status
 
@@ -16,18 +17,22 @@ refusal = codes "input refused 1 NotBuilt" ++ (10 ∷ [])
 abbrev pub words_refusal : List ℕ
 words_refusal = codes "words refused" ++ (10 ∷ [])
 
--- the input is a document of the built form and a script
+-- the input is a stylesheet or none, a document and a script, of the built form
 abbrev pub IsAccepted : List ℕ → Type 0
-IsAccepted input = (document : Written) × (script : List (List ℕ)) × IsInput input document script
+IsAccepted input = (style : Option Sheet) × (document : Written) × (script : List (List ℕ)) × IsInput input style document script
 
--- no document and script are this input
+-- no stylesheet, document and script are this input
 abbrev pub IsRefused : List ℕ → Type 0
-IsRefused input = (document : Written) (script : List (List ℕ)) → IsInput input document script → ⊥
+IsRefused input = (style : Option Sheet) (document : Written) (script : List (List ℕ)) → IsInput input style document script → ⊥
 
--- an accepted input is answered command by command, from the editor of its document on, and every other one is refused
+-- what a script is answered, from the editor of a document under a stylesheet on
+abbrev pub answers : Option Sheet → Written → List (List ℕ) → List ℕ
+answers style document script = replies (rules_for style document) (opened (names_of style document) (start style document)) script
+
+-- an accepted input is answered command by command, and every other one is refused
 abbrev pub IsReplied : List ℕ → List ℕ → Status → Type 0
 IsReplied input bytes status.Ok =
-    (document : Written) × (script : List (List ℕ)) × IsInput input document script × (bytes ≡ replies (opened (names_of document) (start document)) script)
+    (style : Option Sheet) × (document : Written) × (script : List (List ℕ)) × IsInput input style document script × (bytes ≡ answers style document script)
 IsReplied input bytes status.InputRefused = IsRefused input × (bytes ≡ refusal)
 IsReplied input bytes status.BadWords = ⊥
 IsReplied input bytes status.ReadFault = ⊥

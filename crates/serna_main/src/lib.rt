@@ -1,7 +1,7 @@
 //! The top call of the program: from the bytes of an input to the bytes of its answers.
 #![tactic(auto)]
 
-mod offer;
+mod opening;
 mod read;
 mod run;
 mod sections;

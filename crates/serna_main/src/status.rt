@@ -8,7 +8,7 @@ pub enum Status {
     Ok,
     /// The words are in no accepted form.
     BadWords,
-    /// The input is no document of the built form with a script.
+    /// The input is not a document of the built form with a script, and a stylesheet of the built form before it or none.
     InputRefused,
     /// The source failed.
     ReadFault,

@@ -93,6 +93,53 @@ fn documents_in_full(rt: HostRuntime) -> Result<(), Fail> {
     Ok(())
 }
 
+// Inputs with a stylesheet, and what is written: two rules, of which one puts a text in front of each `p`; no rule. The others
+// are refused: a stylesheet that is cut off, one without `version`, one without a name, one whose name has a space, two
+// stylesheets, and one behind the document.
+const STYLED: [(&[u8], &[u8]); 8] = [
+    (
+        b"!style t\n(xsl:stylesheet\nAversion 1.0\nAxmlns:xsl http://www.w3.org/1999/XSL/Transform\nAxmlns:fo http://www.w3.org/1999/XSL/Format\n(xsl:template\nAmatch /\n(fo:root\n(fo:page-sequence\n(fo:flow\nAflow-name xsl-region-body\n(xsl:apply-templates\n)xsl:apply-templates\n)fo:flow\n)fo:page-sequence\n)fo:root\n)xsl:template\n(xsl:template\nAmatch p\n(fo:block\n-x:\n(xsl:apply-templates\n)xsl:apply-templates\n)fo:block\n)xsl:template\n)xsl:stylesheet\n!document\n(doc\n(p\n-Oak\n)p\n(p\n)p\n)doc\n!script\nshow\nat 1 2 2\ntype Red\nat 1 1 0\nshow\n",
+        b"page 1\nline 1 0 0 x:Oak\nline 2 0 14400 x:\nok\nok\nrefused fixed\npage 1\nline 1 0 0 x:Oak\nline 2 0 14400 x:Red\n",
+    ),
+    (
+        b"!style t\n(xsl:stylesheet\nAversion 1.0\nAxmlns:xsl http://www.w3.org/1999/XSL/Transform\n)xsl:stylesheet\n!document\n(doc\n-Oak\n)doc\n!script\nshow\nsource\n",
+        b"plain Oak\n(doc\n-Oak\n)doc\n",
+    ),
+    (
+        b"!style t\n(xsl:stylesheet\nAversion 1.0\nAxmlns:xsl http://www.w3.org/1999/XSL/Transform\n!document\n(doc\n-Oak\n)doc\n!script\nshow\nsource\n",
+        REFUSED,
+    ),
+    (
+        b"!style t\n(xsl:stylesheet\nAxmlns:xsl http://www.w3.org/1999/XSL/Transform\n)xsl:stylesheet\n!document\n(doc\n-Oak\n)doc\n!script\nshow\nsource\n",
+        REFUSED,
+    ),
+    (
+        b"!style \n(xsl:stylesheet\nAversion 1.0\nAxmlns:xsl http://www.w3.org/1999/XSL/Transform\n)xsl:stylesheet\n!document\n(doc\n-Oak\n)doc\n!script\nshow\nsource\n",
+        REFUSED,
+    ),
+    (
+        b"!style t u\n(xsl:stylesheet\nAversion 1.0\nAxmlns:xsl http://www.w3.org/1999/XSL/Transform\n)xsl:stylesheet\n!document\n(doc\n-Oak\n)doc\n!script\nshow\nsource\n",
+        REFUSED,
+    ),
+    (
+        b"!style t\n(xsl:stylesheet\nAversion 1.0\nAxmlns:xsl http://www.w3.org/1999/XSL/Transform\n)xsl:stylesheet\n!style t\n(xsl:stylesheet\nAversion 1.0\nAxmlns:xsl http://www.w3.org/1999/XSL/Transform\n)xsl:stylesheet\n!document\n(doc\n-Oak\n)doc\n!script\nshow\nsource\n",
+        REFUSED,
+    ),
+    (
+        b"!document\n(doc\n-Oak\n)doc\n!style t\n(xsl:stylesheet\nAversion 1.0\nAxmlns:xsl http://www.w3.org/1999/XSL/Transform\n)xsl:stylesheet\n!script\nshow\nsource\n",
+        REFUSED,
+    ),
+];
+
+#[test]
+fn stylesheets(rt: HostRuntime) -> Result<(), Fail> {
+    for (input, want) in STYLED {
+        let ran = run(rt.alloc(), &[], input, 64, &[], &[])?;
+        assert_eq!(rt; ran.held.as_slice(), want);
+    }
+    Ok(())
+}
+
 #[test]
 fn answers(rt: HostRuntime) -> Result<(), Fail> {
     let whole = run(rt.alloc(), &[], TWICE, 64, &[], &[])?;

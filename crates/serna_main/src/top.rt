@@ -4,23 +4,23 @@ ghost use Rattle.plain_editor.specs.Editor.{opened};
 ghost use Rattle.live_editor.specs.Held.{IsSomeSound};
 ghost use Rattle.serna_main.specs.Out.{IsOut, IsEnded, IsAccepted, IsAnswered, IsClosed, IsRefused, spoiled_status, words_refusal};
 ghost use Rattle.serna_main.specs.Sections.{IsJudged};
-ghost use Rattle.serna_main.specs.Outside.{AppendsFront};
+ghost use Rattle.page_print.specs.Outside.{AppendsFront};
 ghost use Rattle.serna_main.specs.declared.status.Status.{Status};
 ghost use Rattle.serna_main.specs.declared.status.Status.TheVariants as status;
 
 use crate::Status;
-use crate::offer::offer;
 use crate::read::{ReadError, read_input};
 use crate::run::run_script;
 use crate::sections::{Sections, judge};
+use page_print::offer;
 use serna_outside::{Sink, Source};
 use std::alloc::Global;
 
 /// The line that refuses an input.
-const REFUSAL: &[u8] = b"input refused 1 NotBuilt\n";
+const REFUSAL: &str = "input refused 1 NotBuilt\n";
 
 /// The line that refuses the words of the command line.
-const WORDS_REFUSAL: &[u8] = b"words refused\n";
+const WORDS_REFUSAL: &str = "words refused\n";
 
 /// Runs the program: reads an input, and writes the replies to its script, or the one line that refuses it.
 ///
@@ -88,7 +88,7 @@ fn refuse_words<K: Sink>(sink: &mut K) -> Status
     ensures write_fault { result ≡ status.WriteFault → Rose (K.faults sink.old) (K.faults sink.new) }
     ensures only { (result ≡ status.BadWords) ⊎ (result ≡ status.WriteFault) }
 {
-    if offer(sink, WORDS_REFUSAL) {
+    if offer(WORDS_REFUSAL, sink) {
         close(sink, Status::BadWords)
     } else {
         Status::WriteFault
@@ -110,7 +110,7 @@ fn answer<K: Sink>(alloc: Global, input: &[u8], sink: &mut K) -> Status
 fn refuse<K: Sink>(sink: &mut K) -> Status
     ensures { (input : List ℕ) → IsRefused input → IsAnswered input result (K.held sink.old) (K.held sink.new) (K.faults sink.old) (K.faults sink.new) (K.is_finished sink.new) }
 {
-    if offer(sink, REFUSAL) {
+    if offer(REFUSAL, sink) {
         close(sink, Status::InputRefused)
     } else {
         Status::WriteFault
@@ -125,11 +125,12 @@ fn obey<K: Sink>(alloc: Global, sections: Sections, sink: &mut K) -> Status
 {
     let Sections {
         names,
+        style,
         source,
         lines,
         first,
     } = sections;
-    match run_script(alloc, names, source, &lines[first..], sink) {
+    match run_script(alloc, names, &style, source, &lines[first..], sink) {
         Status::Ok => close(sink, Status::Ok),
         Status::NoMemory => close(sink, Status::NoMemory),
         Status::WriteFault => Status::WriteFault,

@@ -2,9 +2,9 @@ use Rattle.std.proofs.Common.{sym, subst, IfSome}
 use Rattle.std.specs.Option.{IfNone}
 use Rattle.plain_editor.proofs.Steps.{opened_sound}
 use Rattle.serna_main.specs.Out.{IsRefused}
-use Rattle.serna_main.specs.Outside.{AppendsFront}
+use Rattle.page_print.specs.Outside.{AppendsFront}
 use Rattle.serna_main.specs.Sections.{IsJudged}
-use Rattle.serna_main.proofs.Bytes.{front_none}
+use Rattle.page_print.proofs.Bytes.{front_none}
 use Rattle.serna_main.proofs.Answered.{answered_no_memory}
 use Rattle.serna_main.proofs.top.answer.Goals as goal
 

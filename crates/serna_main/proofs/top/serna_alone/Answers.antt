@@ -3,8 +3,8 @@ use Rattle.std.proofs.lemmas.Bool.{eqb-false, eqb-true}
 use Rattle.serna_outside.specs.Outside.{Appends, Consumes, IsAtEnd, Rose}
 use Rattle.serna_main.specs.declared.status.Status.TheVariants as status
 use Rattle.serna_main.specs.Out.{IsWhole, IsEnded, IsReplied}
-use Rattle.serna_main.specs.Outside.{AppendsFront}
-use Rattle.serna_main.proofs.Bytes.{front_none}
+use Rattle.page_print.specs.Outside.{AppendsFront}
+use Rattle.page_print.proofs.Bytes.{front_none}
 use Rattle.serna_main.proofs.Answered.{if_some_all, out_of_left, front_of_left, end_of_left}
 use Rattle.serna_main.proofs.Words.{whole_of_ended, out_read, front_read, out_words, front_words, complete_read, some_words, empty_words, not_ok, not_read}
 use Rattle.serna_main.proofs.top.serna_alone.Goals as goal

@@ -1,12 +1,13 @@
 -- The stops that are kept are those of the view.
 use Rattle.std.proofs.Common.{[], Some, List, sym, ap, ◌∙◌, subst}
+use Rattle.std.specs.List.{flat_map}
 use Rattle.source_tree.specs.declared.prim.Primitive.{Primitive}
-use Rattle.plain_editor.specs.Stops.{stops_behind, view_stops}
+use Rattle.plain_editor.specs.Views.{view_pages}
+use Rattle.plain_editor.specs.Stops.{stops_behind, page_boundaries, view_stops}
 use Rattle.plain_editor.specs.Stops as stops
 use Rattle.plain_editor.specs.Commands as command
 use Rattle.plain_editor.specs.Editor.{Editor}
 use Rattle.plain_editor.proofs.Steps.{obeyed_sound}
-use Rattle.plain_editor.specs.Runs.{view_runs}
 use Rattle.live_editor.specs.Shown.{boundaries_of}
 use Rattle.live_editor.specs.Held.{IsSomeSound}
 use Rattle.live_editor.proofs.editor.Editor.show.Goals as goal
@@ -17,12 +18,14 @@ with_view now boundaries since = record { names = now.names; source = now.source
 pub returns-clause-state : goal.returns-clause-state
 unfolding view_stops
 returns-clause-state c =
+    let rules = c.args.style.now in
     ap (λ (now : Editor). with_view now (boundaries_of c.in_ok-view.view.boundaries.items) c.clear.new.self.items) c.self.view_is
-    ∙ ap (λ bs. with_view c.args.self.now bs c.clear.new.self.items) (c.in_ok-view.ensures.boundaries ∙ ap (λ (now : Editor). stops.line_boundaries 0 (view_runs now.source)) c.self.view_is)
-    ∙ ap (λ ps. with_view c.args.self.now (stops.line_boundaries 0 (view_runs c.args.self.now.source)) ps) c.clear.ensures.items
+    ∙ ap (λ bs. with_view c.args.self.now bs c.clear.new.self.items)
+    (c.in_ok-view.ensures.boundaries ∙ ap (λ (now : Editor). flat_map page_boundaries (view_pages now.names rules now.source)) c.self.view_is)
+    ∙ ap (λ ps. with_view c.args.self.now (flat_map page_boundaries (view_pages c.args.self.now.names rules c.args.self.now.source)) ps) c.clear.ensures.items
 
 pub invariant_of-self : goal.invariant_of-self
 invariant_of-self c =
     let now : Editor = c.args.self.now in
     let sound : IsSomeSound now = subst IsSomeSound c.self.view_is c.self.invariant in
-    subst IsSomeSound (sym (returns-clause-state c)) (sound.0, obeyed_sound sound.0 now command.Show tt sound.1)
+    subst IsSomeSound (sym (returns-clause-state c)) (sound.0, obeyed_sound c.args.style.now sound.0 now command.Show tt sound.1)
