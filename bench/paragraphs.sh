@@ -15,6 +15,6 @@ for count in 200 400 800 1600; do
         for _ in $(seq 10); do echo show; done
     } >"$work/in"
     echo "$count paragraphs, ten shows:"
-    ( TIMEFORMAT='  %R s'; time "$program" <"$work/in" >"$work/out" )
+    ( TIMEFORMAT='  %R s'; time "$program" <"$work/in" >"$work/out" ) 2>&1
     [ "$(grep -c '^line' "$work/out")" = "$((count * 10))" ]
 done
