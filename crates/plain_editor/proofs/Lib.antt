@@ -9,5 +9,6 @@ pub mod PlacesKept
 pub mod Encoded
 pub mod Marks
 pub mod Runs
+pub mod Seen
 pub mod Steps
 pub mod Keystrokes

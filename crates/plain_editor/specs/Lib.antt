@@ -9,3 +9,4 @@ pub mod Views
 pub mod Sound
 pub mod Stops
 pub mod Texts
+pub mod Seen

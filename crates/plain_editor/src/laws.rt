@@ -9,11 +9,12 @@ ghost use Rattle.style_sheet.specs.declared.style.Rule.{Rule as TemplateRule};
 ghost use Rattle.template_run.specs.Batch.{batch};
 ghost use Rattle.plain_editor.specs.Input.{IsInput};
 ghost use Rattle.plain_editor.specs.Sheets.{Sheet, names_of, rules_for, start};
-ghost use Rattle.plain_editor.specs.Commands.{show_word, command_of, Typing};
+ghost use Rattle.plain_editor.specs.Commands.{show_word, command_of, Show, Typing};
 ghost use Rattle.source_model.specs.Source.{Source};
 ghost use Rattle.source_model.specs.Proper.{IsProper};
 ghost use Rattle.plain_editor.specs.Sound.{IsSound};
-ghost use Rattle.plain_editor.specs.Views.{texts_of};
+ghost use Rattle.plain_editor.specs.Views.{texts_of, view_pages};
+ghost use Rattle.plain_editor.specs.Seen.{ShowTheirPlaces};
 ghost use Rattle.plain_editor.specs.Editor.{Editor, Rule, Done, Refused, opened, step, replies};
 ghost use Rattle.plain_editor.specs.Keystrokes.{HasOtherText, HasNewFirstText};
 ghost use Rattle.serna_kinds.specs.declared.cells.NodeName.{NodeName};
@@ -61,6 +62,20 @@ pub fn runs_say_the_text()
 /// Without a stylesheet what `show` prints of a document is what its text lines say, one after another.
 pub fn view_is_the_written_text()
     ensures { (names : List NameParts) (document : Written) → IsDocument document → texts_of (batch names [] (start None document)) ≡ written_text document }
+{}
+
+/// What the pages of a source show stands in the source where the pages say that it comes from. So the place that a caret takes from
+/// a stop is the place of what is seen there.
+pub fn what_is_seen_stands_there()
+    ensures { (names : List NameParts) (rules : List TemplateRule) (source : Source) → ShowTheirPlaces source (view_pages names rules source) }
+{}
+
+/// Whatever went before, `show` answers what a fresh editor of the present source answers, and keeps the same stops.
+pub fn a_show_is_fresh()
+    ensures answer { (rules : List TemplateRule) (editor : Editor) (line : List ℕ) → command_of line ≡ Show →
+        (step rules editor line).1 ≡ (step rules (opened editor.names editor.source) line).1 }
+    ensures stops { (rules : List TemplateRule) (editor : Editor) (line : List ℕ) → command_of line ≡ Show →
+        (step rules editor line).0.stops ≡ (step rules (opened editor.names editor.source) line).0.stops }
 {}
 
 /// Whatever command line comes, the source stays proper, and the caret and each stop of the last show, carried to now, stand at a
