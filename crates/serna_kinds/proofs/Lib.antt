@@ -1,4 +1,5 @@
 pub mod ListLemmas
-pub mod TextLemmas
 pub mod NameLemmas
+pub mod SpaceLemmas
 pub mod TapeLemmas
+pub mod TextLemmas

@@ -1,4 +1,8 @@
+pub mod Apart
+pub mod Blanks
 pub mod Content
+pub mod Limits
+pub mod Lookups
 pub mod Names
 pub mod Qualified
 pub mod Tape

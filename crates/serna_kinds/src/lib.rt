@@ -2,6 +2,7 @@
 //! values, and the tape on which an evaluation notes the cells that it reads.
 #![tactic(auto)]
 
+mod blanks;
 mod cells;
 mod chars;
 mod expressions;
@@ -9,11 +10,12 @@ mod names;
 mod qualified;
 mod tape;
 
+pub use blanks::{is_blank, is_space};
 pub use cells::{AttrPair, Cell, CellValue, Facet, Kind, NameId, NodeName, NodeRef, SourceView};
 pub use chars::Chars;
 pub use expressions::{Axis, CompareOp, NodeTest, TextFunction};
-pub use names::{Name, NameTable, Spaces};
-pub use qualified::{WrittenName, is_name, parted};
+pub use names::{Name, NameTable, Spaces, XML_URI};
+pub use qualified::{WrittenName, begins_name, continues_name, is_digit, is_name, parted};
 pub use sqlite_items::Items;
 pub use tape::Tape;
 

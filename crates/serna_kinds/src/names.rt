@@ -1,16 +1,20 @@
-ghost use Rattle.std.specs.Prelude.{◌≡◌, ◌++◌, ◌↔◌, [], ◌∷◌, Some, List, length, slice_get, IsTrue, IfOk, OnOk, OnErr};
+ghost use Rattle.std.specs.Prelude.{◌≡◌, ℕ, ◌++◌, ◌↔◌, [], ◌∷◌, Some, None, List, length, slice_get, bytes_eq, IsTrue, IfOk, OnOk, OnErr, if◌then◌else◌};
 ghost use Rattle.std.specs.Option.{option_map};
 ghost use Rattle.std.specs.Cmp.Rules.{comparing, hashing};
 ghost use Rattle.std.specs.Hash as fed;
 ghost use Rattle.std.proofs.Common.{rules};
 ghost use Rattle.serna_kinds.specs.Names.{NameParts, Grows, AreDistinct, name_parts, space, parts_of, is_same_name, id_of, with_name, are_same, uri_of};
+ghost use Rattle.std.specs.Arc.{arc_str_bytes};
+ghost use Rattle.serna_kinds.specs.Lookups.{or_else, uri_in, AreTexts};
 ghost use Rattle.serna_kinds.specs.Qualified.{uri_for, element_uri, attribute_uri};
 
 use crate::{NameId, NoMemory};
 use indexmap::IndexSet;
 use std::alloc::{AllocError, Global};
+use std::collections::HashMap;
 use std::hash::{Hash, Hasher};
 use std::marker::Model;
+use std::sync::ArcStr;
 
 /// A name as it is written: the URI of its namespace (empty: none), its local name and its prefix (empty: none).
 #[derive(Clone, Copy, Debug)]
@@ -200,19 +204,29 @@ impl NameTable {
 #[derive(Debug, Drop)]
 struct Declaration {
     prefix: String,
-    uri: String,
+    uri: ArcStr,
 }
 
 impl Model for Declaration {
     ghost use Rattle.std.specs.String.{string_bytes};
+    ghost use Rattle.std.specs.Arc.{arc_str_bytes};
     ghost use Rattle.serna_kinds.specs.Names.{Space};
 
     ghost Value = { Space };
 
-    ghost view = { λ d. record { prefix = string_bytes d.prefix; uri = string_bytes d.uri } };
+    ghost view = { λ d. record { prefix = string_bytes d.prefix; uri = arc_str_bytes d.uri } };
 }
 
 impl Declaration {
+    fn from_parts(alloc: Global, prefix: &str, uri: &str) -> Result<Declaration, AllocError>
+        ensures { IfOk result (λ d. d ≡ space prefix.now uri.now) }
+    {
+        Ok(Declaration {
+            prefix: String::from_str(alloc, prefix)?,
+            uri: ArcStr::from_str(alloc, uri)?,
+        })
+    }
+
     fn prefix(&self) -> &str
         ensures { result.now ≡ self.now.prefix }
     {
@@ -224,39 +238,59 @@ impl Declaration {
     {
         self.uri.as_str()
     }
-}
 
-impl Clone for Declaration {
-    ghost is_clone = { λ a b. b ≡ a };
-
-    fn clone(&self) -> Result<Declaration, AllocError> {
-        Ok(Declaration {
-            prefix: self.prefix.clone()?,
-            uri: self.uri.clone()?,
-        })
+    // The URI, which shares its memory.
+    fn shared_uri(&self) -> Result<ArcStr, AllocError>
+        ensures { IfOk result (λ u. arc_str_bytes u ≡ self.now.uri) }
+    {
+        self.uri.clone()
     }
 }
 
-// The prefix `xml` and its URI (Namespaces in XML 1.0, section 3).
+// Notes the URI of a prefix that has none so far.
+fn note_uri(
+    uris: &mut HashMap<String, ArcStr>,
+    alloc: Global,
+    prefix: &str,
+    uri: ArcStr,
+) -> Result<(), AllocError>
+    ensures noted { OnOk result ((other : List ℕ) → uri_in uris.new other ≡ or_else (uri_in uris.old other) (if bytes_eq prefix.now other then Some (arc_str_bytes uri) else None)) }
+    ensures kept { OnErr result ((other : List ℕ) → uri_in uris.new other ≡ uri_in uris.old other) }
+{
+    if uris.contains_key(prefix) {
+        return Ok(());
+    }
+    let key = String::from_str(alloc, prefix)?;
+    uris.insert(key, uri)?;
+    Ok(())
+}
+
+// The prefix `xml` (Namespaces in XML 1.0, section 3).
 const XML_PREFIX: &str = "xml";
 
-const XML_URI: &str = "http://www.w3.org/XML/1998/namespace";
+/// The URI that the prefix `xml` stands for, whatever is declared (Namespaces in XML 1.0, section 3).
+pub const XML_URI: &str = "http://www.w3.org/XML/1998/namespace";
 
 /// The prefixes and URIs that a document's outermost element declares, in their order.
 ///
-/// Contracts see the list of the declarations.
+/// Contracts see the list of the declarations. A look-up by prefix costs no pass over them.
 #[derive(Debug, Drop)]
 pub struct Spaces {
     declarations: Vec<Declaration>,
+    // The URI of the first declaration of each prefix.
+    uris: HashMap<String, ArcStr>,
 }
 
 impl Model for Spaces {
     ghost use Rattle.std.specs.Prelude.{List};
     ghost use Rattle.serna_kinds.specs.Names.{Space};
+    ghost use Rattle.serna_kinds.specs.Lookups.{AreIndexed};
 
     ghost Value = { List Space };
 
     ghost view = { λ s. s.declarations.items };
+
+    ghost invariant = { λ s. AreIndexed s.declarations.items s.uris };
 }
 
 impl Spaces {
@@ -266,19 +300,20 @@ impl Spaces {
     {
         Spaces {
             declarations: Vec::new(alloc),
+            uris: HashMap::new(alloc),
         }
     }
 
-    /// Adds a declaration at the end.
+    /// Adds a declaration at the end. After an error the declarations are as before.
     pub fn declare(&mut self, alloc: Global, prefix: &str, uri: &str) -> Result<(), NoMemory>
         ensures ok { OnOk result (self.new ≡ self.old ++ space prefix.now uri.now ∷ []) }
         ensures err { OnErr result (self.new ≡ self.old) }
     {
-        let declaration = Declaration {
-            prefix: String::from_str(alloc, prefix)?,
-            uri: String::from_str(alloc, uri)?,
-        };
-        self.declarations.push(declaration)?;
+        let declaration = Declaration::from_parts(alloc, prefix, uri)?;
+        let shared = declaration.shared_uri()?;
+        self.declarations.reserve(1)?;
+        note_uri(&mut self.uris, alloc, prefix, shared)?;
+        self.declarations.push(declaration).unwrap();
         Ok(())
     }
 
@@ -286,17 +321,13 @@ impl Spaces {
     pub fn uri(&self, prefix: &str) -> Option<&str>
         ensures { option_map (λ u. u.now) result ≡ uri_of self.now prefix.now }
     {
-        for declaration in &self.declarations {
-            if declaration.prefix() == prefix {
-                return Some(declaration.uri());
-            }
-        }
-        None
+        let uri = self.uris.get(prefix)?;
+        Some(uri.as_str())
     }
 
     /// The URI that a prefix stands for: `xml` has its own, whatever is declared (Namespaces in XML 1.0, section 3).
     /// None exactly where nothing declares the prefix.
-    fn uri_for(&self, prefix: &str) -> Option<&str>
+    pub fn uri_for(&self, prefix: &str) -> Option<&str>
         ensures { option_map (λ u. u.now) result ≡ uri_for self.now prefix.now }
     {
         if prefix == XML_PREFIX {
@@ -330,9 +361,10 @@ impl Spaces {
         self.uri_for(prefix)
     }
 
-    /// How many declarations there are.
+    /// How many declarations there are. Any call for it tells that prefixes and URIs are text.
     pub fn len(&self) -> usize
-        ensures { result ≡ length self.now }
+        ensures len { result ≡ length self.now }
+        ensures texts { AreTexts self.now }
     {
         self.declarations.len()
     }
@@ -354,10 +386,13 @@ impl Spaces {
     }
 
     /// The same declarations, in memory of their own.
-    pub fn copy(&self) -> Result<Spaces, NoMemory>
+    pub fn copy(&self, alloc: Global) -> Result<Spaces, NoMemory>
         ensures { IfOk result (λ s. s ≡ self.now) }
     {
-        let declarations = self.declarations.clone()?;
-        Ok(Spaces { declarations })
+        let mut copy = Spaces::new(alloc);
+        for declaration in &self.declarations {
+            copy.declare(alloc, declaration.prefix(), declaration.uri())?;
+        }
+        Ok(copy)
     }
 }

@@ -16,16 +16,26 @@ fn is_letter(b: u8) -> bool
     matches!(b, b'A'..=b'Z' | b'a'..=b'z')
 }
 
-fn begins_name(b: u8) -> bool
+/// Whether a byte is an ASCII digit.
+pub fn is_digit(b: u8) -> bool
+    ensures { result ≡ is_digit b }
+{
+    b.is_ascii_digit()
+}
+
+/// Whether a local name may begin with a byte: with an ASCII letter, `_` or a byte of a character past ASCII (after Namespaces
+/// in XML 1.0, section 2: NCName).
+pub fn begins_name(b: u8) -> bool
     ensures { result ≡ begins_name b }
 {
     is_letter(b) || b == b'_' || b >= 128
 }
 
-fn continues_name(b: u8) -> bool
+/// Whether a local name may go on with a byte: with one that it may begin with, a digit, `-` or `.`.
+pub fn continues_name(b: u8) -> bool
     ensures { result ≡ continues_name b }
 {
-    begins_name(b) || matches!(b, b'0'..=b'9' | b'-' | b'.')
+    begins_name(b) || is_digit(b) || matches!(b, b'-' | b'.')
 }
 
 fn are_continuing(bytes: &[u8]) -> bool

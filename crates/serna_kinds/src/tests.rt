@@ -17,7 +17,7 @@ fn numbers_names(rt: HostRuntime) -> Result<(), Fail> {
 fn finds_a_declared_space(rt: HostRuntime) -> Result<(), Fail> {
     let mut spaces = Spaces::new(rt.alloc());
     spaces.declare(rt.alloc(), "p", "u")?;
-    assert!(rt; spaces.copy()?.uri("p").is_some());
+    assert!(rt; spaces.copy(rt.alloc())?.uri("p").is_some());
     Ok(())
 }
 
@@ -62,7 +62,7 @@ fn copies_a_test(rt: HostRuntime) -> Result<(), Fail> {
 fn holds_characters(rt: HostRuntime) -> Result<(), Fail> {
     let mut text = Chars::from_text(rt.alloc(), "ß")?;
     let piece = text.copy()?;
-    text.insert(0, &piece)?;
+    text.insert(rt.alloc(), 0, &piece)?;
     assert!(rt; text.as_text() == "ßß");
     Ok(())
 }

@@ -1,7 +1,7 @@
-use Rattle.std.proofs.Common.{◌∙◌, ap}
-use Rattle.std.specs.Str.{chars}
+-- The empty text has no characters.
+use Rattle.std.proofs.Common.{◌≡◌, ℕ, List, IfOk, subst}
 use Rattle.std.proofs.lemmas.Str.{chars-nil}
 use Rattle.serna_kinds.proofs.chars.Chars.new.Goals as goal
 
 pub returns : goal.returns
-returns c = ap chars c.new.ensures.bytes ∙ chars-nil
+returns c = let P : List ℕ → Type 0 = λ t. IfOk c.from_text.result (λ x. x ≡ t) in subst P chars-nil c.from_text.ensures
