@@ -7,13 +7,14 @@ ghost use Rattle.page_print.specs.Outside.{AppendsFront};
 use serna_outside::{Put, Sink};
 
 /// Offers a text to the sink line by line, each up to and with its LF, and what stands behind the last LF as a last piece; what the
-/// sink did not take of a piece is offered again. Takes no memory. False where the sink failed; then a front of the text is
-/// written.
+/// sink did not take of a piece is offered again. Takes no memory. False where a write failed, which is then the last call on
+/// the sink; a front of the text is written.
 pub fn offer<K: Sink>(text: &str, sink: &mut K) -> bool
     ensures written { IsTrue result → Appends (K.held sink.old) (K.held sink.new) text.now }
     ensures kept { IsTrue result → K.faults sink.new ≡ K.faults sink.old }
     ensures front { AppendsFront (K.held sink.old) (K.held sink.new) text.now }
     ensures failed { result ≡ false → Rose (K.faults sink.old) (K.faults sink.new) }
+    ensures unfinished { result ≡ false → K.is_finished sink.new ≡ false }
 {
     offer_lines(text.as_bytes(), sink)
 }
@@ -24,6 +25,7 @@ fn offer_lines<K: Sink>(text: &[u8], sink: &mut K) -> bool
     ensures kept { IsTrue result → K.faults sink.new ≡ K.faults sink.old }
     ensures front { AppendsFront (K.held sink.old) (K.held sink.new) text.now }
     ensures failed { result ≡ false → Rose (K.faults sink.old) (K.faults sink.new) }
+    ensures unfinished { result ≡ false → K.is_finished sink.new ≡ false }
 {
     let mut done = 0;
     'lines: while done < text.len() {
@@ -43,6 +45,7 @@ fn offer_piece<K: Sink>(piece: &[u8], sink: &mut K) -> bool
     ensures kept { IsTrue result → K.faults sink.new ≡ K.faults sink.old }
     ensures front { AppendsFront (K.held sink.old) (K.held sink.new) piece.now }
     ensures failed { result ≡ false → Rose (K.faults sink.old) (K.faults sink.new) }
+    ensures unfinished { result ≡ false → K.is_finished sink.new ≡ false }
 {
     let mut done = 0;
     'rest: while done < piece.len() {

@@ -17,7 +17,7 @@ pub fn page_text(alloc: Global, pages: &[Page]) -> Result<Chars, NoMemory>
     for page in pages {
         push_page(alloc, &mut out, page)?;
     }
-    Ok(Chars::from_string(out))
+    Chars::from_string(out)
 }
 
 /// Adds a page: the line of its number, and its lines.
@@ -40,7 +40,7 @@ pub fn plain_text(alloc: Global, pages: &[Page]) -> Result<Chars, NoMemory>
         push_shown(&mut out, page.lines.as_slice())?;
     }
     out.push_str("\n")?;
-    Ok(Chars::from_string(out))
+    Chars::from_string(out)
 }
 
 /// Adds what lines show.

@@ -1,14 +1,11 @@
--- How the sources and sinks of this crate count their calls and their faults (this project's own).
-use Rattle.std.specs.Prelude.{ℕ, ◌+◌, ◌-◌, ◌^◌, ◌==◌, min, Bool, true, false, List}
+-- How the sources and sinks of this crate count their faults, and which calls fail (this project's own).
+use Rattle.std.specs.Prelude.{ℕ, ◌==◌, Bool, true, false, List}
 use Rattle.std.specs.List.{list_any}
 use Rattle.serna_outside.specs.declared.traits.Got.{Got}
 use Rattle.serna_outside.specs.declared.traits.Got.TheVariants as got
 use Rattle.serna_outside.specs.declared.traits.Put.{Put}
 use Rattle.serna_outside.specs.declared.traits.Put.TheVariants as put
-
--- one more, up to the last value of a `u64`
-abbrev pub raised : ℕ → ℕ
-raised count = min (count + 1) (2 ^ 64 - 1)
+use Rattle.serna_outside.specs.Outside.{raised}
 
 -- the faults after a read: a failed one is one more
 abbrev pub faults_after_read : ℕ → Got → ℕ

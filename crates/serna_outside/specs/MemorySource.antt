@@ -2,7 +2,8 @@
 use Rattle.std.specs.Prelude.{ℕ, ◌==◌, min, List, length, drop, if◌then◌else◌}
 use Rattle.serna_outside.specs.declared.traits.Got.{Got}
 use Rattle.serna_outside.specs.declared.traits.Got.TheVariants as got
-use Rattle.serna_outside.specs.Counts.{raised, faults_after_read, is_to_fail}
+use Rattle.serna_outside.specs.Outside.{raised}
+use Rattle.serna_outside.specs.Counts.{faults_after_read, is_to_fail}
 
 -- the bytes that are left, the numbers of the calls that fail, the most bytes that a read gives, and how many calls and
 -- faults there were
@@ -12,6 +13,11 @@ pub record SourceState : Type 0 where
   pub most : ℕ
   pub calls : ℕ
   pub faults : ℕ
+
+-- of a source that never fails: the bytes that are left, and how many calls there were
+pub record SureState : Type 0 where
+  pub left : List ℕ
+  pub calls : ℕ
 
 -- so many bytes; none is the end
 abbrev pub got_of : ℕ → Got

@@ -1,5 +1,5 @@
--- What a read takes from a source and a write leaves in a sink, each where it tells its bytes, and how faults are counted
--- (this project's own).
+-- What a read takes from a source and a write leaves in a sink, each where it tells its bytes, and how calls and faults are
+-- counted (this project's own).
 use Rattle.std.specs.Prelude.{◌≡◌, ℕ, ◌+◌, ◌-◌, ◌^◌, ◌<◌, ◌≤◌, Bool, true, false, min, List, [], ◌++◌, length, take, Option, Some, None}
 use Rattle.serna_outside.specs.declared.traits.Got.{Got}
 use Rattle.serna_outside.specs.declared.traits.Got.TheVariants as got
@@ -34,9 +34,13 @@ abbrev pub Writes : Option (List ℕ) → Option (List ℕ) → List ℕ → Put
 Writes before after piece (put.Took n) = (0 < n) × (n ≤ length piece) × Appends before after (take n piece)
 Writes before after piece put.Failed = after ≡ before
 
+-- one more, up to the last value of a `u64`
+abbrev pub raised : ℕ → ℕ
+raised count = min (count + 1) (2 ^ 64 - 1)
+
 -- a count of faults has risen: one that stands at its last value counts as risen
 abbrev pub Rose : ℕ → ℕ → Type 0
-Rose before after = min (before + 1) (2 ^ 64 - 1) ≤ after
+Rose before after = raised before ≤ after
 
 abbrev pub CountsRead : ℕ → ℕ → Got → Type 0
 CountsRead before after (got.Bytes n) = after ≡ before

@@ -1,6 +1,5 @@
-ghost use Rattle.std.specs.Prelude.{◌≡◌, ◌↔◌, ◌⊎◌, ◌<◌, ◌≤◌, [], Some, false, not, IfOk, Contains, length};
-ghost use Rattle.serna_outside.specs.Outside.{Writes, CountsWrite, CountsFinish};
-ghost use Rattle.serna_outside.specs.Counts.{raised};
+ghost use Rattle.std.specs.Prelude.{◌≡◌, ◌↔◌, ◌⊎◌, ◌<◌, ◌≤◌, [], Some, IsTrue, false, not, IfOk, Contains, length};
+ghost use Rattle.serna_outside.specs.Outside.{raised, Writes, CountsWrite, CountsFinish};
 ghost use Rattle.serna_outside.specs.MemorySink.{SinkState, next_is_to_fail, write_answer, after_write, after_finish};
 
 use crate::steps::fails;
@@ -12,7 +11,8 @@ use std::marker::Model;
 /// A sink that keeps its bytes in memory, and fails where it is full or is told to fail.
 ///
 /// Contracts see it as a `SinkState`: the bytes held, the numbers of the calls that fail, the most bytes that it can
-/// hold, and the counts of calls and of faults, which stay at 2^64 - 1 once they are there.
+/// hold, the counts of calls and of faults, which stay at 2^64 - 1 once they are there, and whether `finish` was the last
+/// call.
 #[derive(Debug, Drop)]
 pub struct MemorySink {
     held: Vec<u8>,
@@ -20,6 +20,7 @@ pub struct MemorySink {
     room: usize,
     calls: u64,
     faults: u64,
+    finished: bool,
 }
 
 impl Model for MemorySink {
@@ -28,7 +29,7 @@ impl Model for MemorySink {
 
     ghost Value = { SinkState };
 
-    ghost view = { λ s. record { held = s.held.items; failing = s.failing; room = s.room; calls = s.calls; faults = s.faults } };
+    ghost view = { λ s. record { held = s.held.items; failing = s.failing; room = s.room; calls = s.calls; faults = s.faults; finished = s.finished } };
 
     ghost invariant = { λ s. (vec_len s.held ≤ s.room) × (s.room ≤ vec_capacity s.held) };
 }
@@ -37,7 +38,7 @@ impl MemorySink {
     /// An empty sink for `room` bytes, whose memory it takes here. The calls of `write` and `finish` are numbered
     /// together from 1, and those whose numbers are in `failing` fail.
     pub fn new(alloc: Global, failing: Items<u64>, room: usize) -> Result<MemorySink, NoMemory>
-        ensures { IfOk result (λ sink. sink ≡ record { held = []; failing = failing; room = room; calls = 0; faults = 0 }) }
+        ensures { IfOk result (λ sink. sink ≡ record { held = []; failing = failing; room = room; calls = 0; faults = 0; finished = false }) }
     {
         let held = Vec::with_capacity(alloc, room)?;
         Ok(MemorySink {
@@ -46,6 +47,7 @@ impl MemorySink {
             room,
             calls: 0,
             faults: 0,
+            finished: false,
         })
     }
 
@@ -55,6 +57,13 @@ impl MemorySink {
     {
         self.held.as_slice()
     }
+
+    /// Whether `finish` was the last call.
+    pub fn is_finished(&self) -> bool
+        ensures { result ≡ self.now.finished }
+    {
+        self.finished
+    }
 }
 
 impl Sink for MemorySink {
@@ -62,18 +71,22 @@ impl Sink for MemorySink {
 
     ghost faults = { λ s. s.faults };
 
+    ghost is_finished = { λ s. s.finished };
+
     /// Takes what fits of the piece, or fails where the number of this call is one of those that fail and where no room
-    /// is left. A call that fails changes the two counts and nothing else.
+    /// is left. A call that fails changes no byte.
     fn write(&mut self, piece: &[u8]) -> Put
         requires { 0 < length piece.now }
         ensures bytes { Writes (Some self.old.held) (Some self.new.held) piece.now result }
         ensures counted { CountsWrite self.old.faults self.new.faults result }
+        ensures unfinished { self.new.finished ≡ false }
 
         ensures fails { (result ≡ Put.Failed) ↔ (Contains self.old.failing (raised self.old.calls) ⊎ (self.old.room ≤ length self.old.held)) }
         ensures answer { result ≡ write_answer self.old (length piece.now) }
         ensures after { self.new ≡ after_write self.old piece.now result }
     {
         self.calls = self.calls.saturating_add(1);
+        self.finished = false;
         let room = self.room - self.held.len();
         if room == 0 || fails(self.failing.as_slice(), self.calls) {
             self.faults = self.faults.saturating_add(1);
@@ -88,12 +101,14 @@ impl Sink for MemorySink {
     fn finish(&mut self) -> bool
         ensures held { self.new.held ≡ self.old.held }
         ensures counted { CountsFinish self.old.faults self.new.faults result }
+        ensures finished { IsTrue self.new.finished }
 
         ensures fails { (result ≡ false) ↔ Contains self.old.failing (raised self.old.calls) }
         ensures answer { result ≡ not (next_is_to_fail self.old) }
         ensures after { self.new ≡ after_finish self.old result }
     {
         self.calls = self.calls.saturating_add(1);
+        self.finished = true;
         if fails(self.failing.as_slice(), self.calls) {
             self.faults = self.faults.saturating_add(1);
             return false;

@@ -1,6 +1,5 @@
 ghost use Rattle.std.specs.Prelude.{◌≡◌, ◌↔◌, ◌++◌, ◌<◌, ◌≤◌, Some, Contains, length, take, drop};
-ghost use Rattle.serna_outside.specs.Outside.{Reads, CountsRead};
-ghost use Rattle.serna_outside.specs.Counts.{raised};
+ghost use Rattle.serna_outside.specs.Outside.{raised, Reads, CountsRead};
 ghost use Rattle.serna_outside.specs.MemorySource.{SourceState, count_of, read_answer, after_read};
 
 use crate::steps::{copy_front, fails, got};
@@ -54,6 +53,8 @@ impl MemorySource {
 impl Source for MemorySource {
     ghost left = { λ s. Some s.left };
 
+    ghost calls = { λ s. s.calls };
+
     ghost faults = { λ s. s.faults };
 
     /// Gives as many bytes as `most` and the buffer allow, or fails where the number of this call is one of those that
@@ -61,6 +62,7 @@ impl Source for MemorySource {
     fn read(&mut self, into: &mut [u8]) -> Got
         requires { 0 < length into.old }
         ensures bytes { Reads (Some self.old.left) (Some self.new.left) into.new result }
+        ensures called { self.new.calls ≡ raised self.old.calls }
         ensures counted { CountsRead self.old.faults self.new.faults result }
 
         ensures fails { (result ≡ Got.Failed) ↔ Contains self.old.failing (raised self.old.calls) }

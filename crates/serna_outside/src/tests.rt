@@ -219,6 +219,25 @@ fn sinks_hold_what_they_took(rt: HostRuntime) -> Result<(), Fail> {
 }
 
 #[test]
+fn a_sink_tells_that_finish_was_last(rt: HostRuntime) -> Result<(), Fail> {
+    let alloc = rt.alloc();
+    let failing = Items::from_slice(alloc, &[2])?;
+    let mut sink = MemorySink::new(alloc, failing, 2)?;
+    assert!(rt; !sink.is_finished(), "before any call");
+    for (written, finished) in [
+        (Put::Took(1), false),
+        (Put::Took(1), true),
+        (Put::Failed, true),
+    ] {
+        assert_eq!(rt; sink.write(b"a"), written);
+        assert!(rt; !sink.is_finished(), "after a write");
+        assert_eq!(rt; sink.finish(), finished);
+        assert!(rt; sink.is_finished(), "after finish, whatever it answered");
+    }
+    Ok(())
+}
+
+#[test]
 fn a_reader_is_a_source(rt: HostRuntime) -> Result<(), Fail> {
     let alloc = rt.alloc();
     let whole = read_five_times(alloc, &mut ReadSource::new(b"abc".as_slice()), 2)?;
