@@ -1,18 +1,20 @@
 -- What is said of the names of a tree is the same in a table that has grown.
-use Rattle.std.proofs.Common.{◌≡◌, ℕ, Bool, false, not, ◌&&◌, ◌||◌, List, [], ◌∷◌, ◌++◌, Option, Some, None, IsSome, slice_get, map, refl, sym, ap, ◌∙◌, subst, codes, bytes_eq}
+use Rattle.std.proofs.Common.{◌≡◌, ℕ, Bool, false, not, ◌&&◌, ◌||◌, List, [], ◌∷◌, ◌++◌, Option, Some, None, IsSome, slice_get, refl, sym, ap, ◌∙◌, subst, codes, bytes_eq}
 use Rattle.std.specs.Prelude.{if◌then◌else◌}
 use Rattle.std.specs.List.{AllByRecursion, list_all, list_any}
 use Rattle.std.specs.Option.{option_map_or}
 use Rattle.serna_kinds.specs.declared.cells.NameId.{NameId}
 use Rattle.serna_kinds.specs.declared.cells.AttrPair.{AttrPair}
+use Rattle.serna_kinds.specs.Apart.{AreApart}
+use Rattle.serna_kinds.specs.Blanks.{is_blank}
 use Rattle.serna_kinds.specs.Names.{NameParts, Space, Grows, are_same}
 use Rattle.serna_kinds.proofs.NameLemmas.{slice_get-grown}
 use Rattle.tree_lines.specs.declared.tree.TreeItem.{TreeItem}
 use Rattle.tree_lines.specs.declared.tree.TreeItem.TheVariants as item
 use Rattle.tree_lines.specs.Given.{Given, items_of}
 use Rattle.tree_lines.specs.Given as given
-use Rattle.tree_lines.specs.Tokens.{AreApart, IsNamed, AreNamed, without_line}
-use Rattle.style_sheet.specs.Styles.{xslt_uri, is_within, is_named, is_instruction, is_blank, match_of}
+use Rattle.tree_lines.specs.Tokens.{IsNamed, AreNamed}
+use Rattle.style_sheet.specs.Styles.{xslt_uri, is_within, is_named, is_instruction, match_of}
 use Rattle.style_sheet.specs.Built.{has_texts_alone, has_nothing, has_none, has_alone, is_brace, is_plain_attribute, is_body, is_pattern, are_templates, is_built}
 
 -- a name that the table has is the same one later
@@ -60,17 +62,6 @@ pub AreNamed-grown : (old new : List NameParts) (items : List TreeItem) → Grow
 AreNamed-grown old new [] grown known = tt
 AreNamed-grown old new (x ∷ items) grown known = (item-grown old new x grown known.0, AreNamed-grown old new items grown known.1)
 
--- numbers of lines say nothing of names
-IsNamed-without_line : (names : List NameParts) (x : TreeItem) → IsNamed names x → IsNamed names (without_line x)
-IsNamed-without_line names (item.Begin name attributes line) known = known
-IsNamed-without_line names (item.Text t) known = tt
-IsNamed-without_line names (item.Comment t) known = tt
-IsNamed-without_line names item.Finish known = tt
-
-pub AreNamed-without_line : (names : List NameParts) (items : List TreeItem) → AreNamed names items → AreNamed names (map without_line items)
-AreNamed-without_line names [] known = tt
-AreNamed-without_line names (x ∷ items) known = (IsNamed-without_line names x known.0, AreNamed-without_line names items known.1)
-
 front : (names : List NameParts) (xs ys : List TreeItem) → AreNamed names (xs ++ ys) → AreNamed names xs
 front names [] ys known = tt
 front names (x ∷ xs) ys known = (known.0, front names xs ys known.1)
@@ -95,7 +86,7 @@ body-grown : (old new : List NameParts) (tree : Given) → Grows old new → Are
 body-grown old new given.end grown known = refl
 body-grown old new (given.text t rest) grown known = body-grown old new rest grown known.1
 body-grown old new (given.comment t rest) grown known = body-grown old new rest grown known.1
-body-grown old new (given.element name attributes content rest) grown known =
+body-grown old new (given.element name attributes line content rest) grown known =
     let verbatim : is_instruction new (codes "text") name ≡ is_instruction old (codes "text") name = named-grown old new xslt_uri (codes "text") name grown known.0.0 in
     let apply : is_instruction new (codes "apply-templates") name ≡ is_instruction old (codes "apply-templates") name = named-grown old new xslt_uri (codes "apply-templates") name grown known.0.0 in
     let inside : is_within new xslt_uri name ≡ is_within old xslt_uri name = within-grown old new xslt_uri name grown known.0.0 in
@@ -110,7 +101,7 @@ templates-grown : (old new : List NameParts) (spaces : List Space) (tree : Given
 templates-grown old new spaces given.end grown known = refl
 templates-grown old new spaces (given.text t rest) grown known = ap (λ b. is_blank t && b) (templates-grown old new spaces rest grown known.1)
 templates-grown old new spaces (given.comment t rest) grown known = templates-grown old new spaces rest grown known.1
-templates-grown old new spaces (given.element name attributes content rest) grown known =
+templates-grown old new spaces (given.element name attributes line content rest) grown known =
     let one : is_instruction new (codes "template") name ≡ is_instruction old (codes "template") name = named-grown old new xslt_uri (codes "template") name grown known.0.0 in
     let alone : has_alone new (codes "match") attributes ≡ has_alone old (codes "match") attributes = alone-grown old new (codes "match") attributes grown known.0.1 in
     let inner : is_body new content ≡ is_body old content = body-grown old new content grown (front old (items_of content) (item.Finish ∷ items_of rest) known.1) in
@@ -121,7 +112,7 @@ pub built-grown : (old new : List NameParts) (spaces : List Space) (tree : Given
 built-grown old new spaces given.end grown known = refl
 built-grown old new spaces (given.text t rest) grown known = built-grown old new spaces rest grown known.1
 built-grown old new spaces (given.comment t rest) grown known = built-grown old new spaces rest grown known.1
-built-grown old new spaces (given.element name attributes content rest) grown known =
+built-grown old new spaces (given.element name attributes line content rest) grown known =
     let sheet : is_instruction new (codes "stylesheet") name ≡ is_instruction old (codes "stylesheet") name = named-grown old new xslt_uri (codes "stylesheet") name grown known.0.0 in
     let other : is_instruction new (codes "transform") name ≡ is_instruction old (codes "transform") name = named-grown old new xslt_uri (codes "transform") name grown known.0.0 in
     let alone : has_alone new (codes "version") attributes ≡ has_alone old (codes "version") attributes = alone-grown old new (codes "version") attributes grown known.0.1 in

@@ -2,3 +2,4 @@ pub mod Grown
 pub mod Running
 pub mod Told
 pub mod Saying
+pub mod Lineless

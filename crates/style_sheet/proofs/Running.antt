@@ -7,21 +7,22 @@ use Rattle.std.proofs.lemmas.List.{append-nil, length_push}
 use Rattle.std.proofs.lemmas.List.Sums.{fold-append}
 use Rattle.serna_kinds.specs.declared.cells.NameId.{NameId}
 use Rattle.serna_kinds.specs.declared.cells.AttrPair.{AttrPair}
+use Rattle.serna_kinds.specs.Blanks.{is_blank}
 use Rattle.serna_kinds.specs.Names.{NameParts, Space, with_name}
 use Rattle.tree_lines.specs.declared.tree.TreeItem.{TreeItem}
 use Rattle.tree_lines.specs.declared.tree.TreeItem.TheVariants as item
 use Rattle.tree_lines.specs.Given.{Given, items_of}
 use Rattle.tree_lines.specs.Given as given
-use Rattle.tree_lines.specs.Tokens.{without_line, with_names}
+use Rattle.tree_lines.specs.Tokens.{with_names}
 use Rattle.style_sheet.specs.declared.style.Pattern.{Pattern}
 use Rattle.style_sheet.specs.declared.style.Instruction.{Instruction}
 use Rattle.style_sheet.specs.declared.style.Instruction.TheVariants as instruction
 use Rattle.style_sheet.specs.declared.style.Rule.{Rule}
 use Rattle.style_sheet.specs.declared.reader.Place.{Place}
 use Rattle.style_sheet.specs.declared.reader.Place.TheVariants as place
-use Rattle.style_sheet.specs.Styles.{xslt_uri, is_within, is_instruction, is_blank, text_in, texts_in, attribute_in, literal_in, keeps, body_in, pattern_of, match_of, rule_at, rules_in, rules_of, matched_name, matched_in, matched_names}
+use Rattle.style_sheet.specs.Styles.{xslt_uri, is_within, is_instruction, text_in, texts_in, attribute_in, literal_in, keeps, body_in, pattern_of, match_of, rule_at, rules_in, rules_of, matched_name, matched_in, matched_names}
 use Rattle.style_sheet.specs.Built.{has_texts_alone, has_nothing, has_none, is_plain_attribute, is_body, is_template, are_templates, is_sheet, is_built}
-use Rattle.style_sheet.specs.Steps.{Progress, progress, text_at, begin_at, after_inner, knowing, after, run, outcome, no_reading, saying}
+use Rattle.style_sheet.specs.Steps.{Progress, progress, text_at, begin_at, after_inner, knowing, run, outcome, no_reading, saying}
 
 -- where the next item stands, and what is read
 abbrev at : Place → List Place → List Instruction → List Rule → List NameParts → Progress
@@ -45,7 +46,7 @@ verbatim names spaces (given.text t rest) around body rules known more =
     verbatim names spaces rest around (body ++ instruction.Text t ∷ []) rules known more
     ∙ ap (λ (b : List Instruction). only (has_texts_alone rest) (run names spaces (at place.Verbatim around b rules known) more)) (append_assoc body (instruction.Text t ∷ []) (texts_in rest))
 verbatim names spaces (given.comment t rest) around body rules known more = verbatim names spaces rest around body rules known more
-verbatim names spaces (given.element name attributes content rest) around body rules known more = refl
+verbatim names spaces (given.element name attributes line content rest) around body rules known more = refl
 
 -- in `xsl:apply-templates`
 nothing : (names : List NameParts) (spaces : List Space) (tree : Given) (around : List Place) (body : List Instruction) (rules : List Rule) (known : List NameParts) (more : List TreeItem) →
@@ -58,7 +59,7 @@ nothing names spaces (given.text t rest) around body rules known more = by (is_b
     by true e further = rw e (ap (λ (b : List Instruction). run names spaces (at place.Apply around b rules known) (items_of rest ++ more)) (append-nil body) ∙ further)
     by false e further = rw e refl
 nothing names spaces (given.comment t rest) around body rules known more = nothing names spaces rest around body rules known more
-nothing names spaces (given.element name attributes content rest) around body rules known more = refl
+nothing names spaces (given.element name attributes line content rest) around body rules known more = refl
 
 -- a place in a body, where white space is kept or not
 record IsBody (names : List NameParts) (spaces : List Space) (here : Place) (kept : Bool) : Type 0 where
@@ -128,7 +129,7 @@ bodied names spaces (given.text t rest) here kept around body rules known more i
     ∙ bodied names spaces rest here kept around (body ++ text_in kept t) rules known more is
     ∙ ap (λ (b : List Instruction). only (is_body names rest) (run names spaces (at here around b rules known) more)) (append_assoc body (text_in kept t) (body_in names kept rest))
 bodied names spaces (given.comment t rest) here kept around body rules known more is = bodied names spaces rest here kept around body rules known more is
-bodied names spaces (given.element name attributes content rest) here kept around body rules known more is =
+bodied names spaces (given.element name attributes line content rest) here kept around body rules known more is =
     let said : List Instruction = inner_in names kept name attributes content in
     let kept_inside : Bool = keeps names kept attributes in
     let tail : List TreeItem = items_of rest ++ more in
@@ -139,7 +140,7 @@ bodied names spaces (given.element name attributes content rest) here kept aroun
     (λ outer b further. bodied names spaces content (place.Literal kept_inside) kept_inside outer b rules known further (in_literal names spaces kept_inside))
     ∙ ap (only (is_inner names name attributes content)) (bodied names spaces rest here kept around (body ++ said) rules known more is)
     ∙ only-only (is_inner names name attributes content) (is_body names rest) (run names spaces (at here around ((body ++ said) ++ body_in names kept rest) rules known) more)
-    ∙ ap (λ (b : List Instruction). only (is_body names (given.element name attributes content rest)) (run names spaces (at here around b rules known) more)) (append_assoc body said (body_in names kept rest))
+    ∙ ap (λ (b : List Instruction). only (is_body names (given.element name attributes line content rest)) (run names spaces (at here around b rules known) more)) (append_assoc body said (body_in names kept rest))
 
 -- the neighbours behind a template are read
 abbrev IsFollowed : List NameParts → List Space → Given → List Place → List Rule → List NameParts → List TreeItem → Type 0
@@ -148,17 +149,17 @@ IsFollowed names spaces rest around rules known more =
     ≡ only (are_templates names spaces rest) (run names spaces (at place.Sheet around [] (rules ++ rules_in names spaces (length rules) rest) (with_names known (matched_in spaces rest))) more)
 
 -- a template, and what follows it
-templated : (names : List NameParts) (spaces : List Space) (name : NameId) (attributes : List AttrPair) (content rest : Given) (around : List Place) (rules : List Rule) (known : List NameParts) (more : List TreeItem) →
+templated : (names : List NameParts) (spaces : List Space) (name : NameId) (attributes : List AttrPair) (line : ℕ) (content rest : Given) (around : List Place) (rules : List Rule) (known : List NameParts) (more : List TreeItem) →
     IsFollowed names spaces rest around (rules ++ rule_at (length rules) (pattern_of names spaces (match_of attributes)) (body_in names false content) ∷ []) (with_names known (matched_name spaces (match_of attributes))) more →
-    run names spaces (at place.Sheet around [] rules known) (item.Begin name attributes 0 ∷ (items_of content ++ (item.Finish ∷ (items_of rest ++ more))))
-    ≡ only (are_templates names spaces (given.element name attributes content rest))
-    (run names spaces (at place.Sheet around [] (rules ++ rules_in names spaces (length rules) (given.element name attributes content rest)) (with_names known (matched_in spaces (given.element name attributes content rest)))) more)
-templated names spaces name attributes content rest around rules known more further = by (is_template names spaces name attributes) refl
+    run names spaces (at place.Sheet around [] rules known) (item.Begin name attributes line ∷ (items_of content ++ (item.Finish ∷ (items_of rest ++ more))))
+    ≡ only (are_templates names spaces (given.element name attributes line content rest))
+    (run names spaces (at place.Sheet around [] (rules ++ rules_in names spaces (length rules) (given.element name attributes line content rest)) (with_names known (matched_in spaces (given.element name attributes line content rest)))) more)
+templated names spaces name attributes line content rest around rules known more further = by (is_template names spaces name attributes) refl
   where
     by : (b : Bool) → is_template names spaces name attributes ≡ b →
-        run names spaces (at place.Sheet around [] rules known) (item.Begin name attributes 0 ∷ (items_of content ++ (item.Finish ∷ (items_of rest ++ more))))
-        ≡ only (are_templates names spaces (given.element name attributes content rest))
-        (run names spaces (at place.Sheet around [] (rules ++ rules_in names spaces (length rules) (given.element name attributes content rest)) (with_names known (matched_in spaces (given.element name attributes content rest)))) more)
+        run names spaces (at place.Sheet around [] rules known) (item.Begin name attributes line ∷ (items_of content ++ (item.Finish ∷ (items_of rest ++ more))))
+        ≡ only (are_templates names spaces (given.element name attributes line content rest))
+        (run names spaces (at place.Sheet around [] (rules ++ rules_in names spaces (length rules) (given.element name attributes line content rest)) (with_names known (matched_in spaces (given.element name attributes line content rest)))) more)
     by true e =
         let pattern : Pattern = pattern_of names spaces (match_of attributes) in
         let rule : Rule = rule_at (length rules) pattern (body_in names false content) in
@@ -189,9 +190,9 @@ sheeted names spaces (given.text t rest) around rules known more = by (is_blank 
     by true e further = rw e further
     by false e further = rw e refl
 sheeted names spaces (given.comment t rest) around rules known more = sheeted names spaces rest around rules known more
-sheeted names spaces (given.element name attributes content rest) around rules known more =
-    ap (λ (l : List TreeItem). run names spaces (at place.Sheet around [] rules known) (item.Begin name attributes 0 ∷ l)) (append_assoc (items_of content) (item.Finish ∷ items_of rest) more)
-    ∙ templated names spaces name attributes content rest around rules known more
+sheeted names spaces (given.element name attributes line content rest) around rules known more =
+    ap (λ (l : List TreeItem). run names spaces (at place.Sheet around [] rules known) (item.Begin name attributes line ∷ l)) (append_assoc (items_of content) (item.Finish ∷ items_of rest) more)
+    ∙ templated names spaces name attributes line content rest around rules known more
     (sheeted names spaces rest around (rules ++ rule_at (length rules) (pattern_of names spaces (match_of attributes)) (body_in names false content) ∷ []) (with_names known (matched_name spaces (match_of attributes))) more)
 
 -- behind the outermost element nothing changes
@@ -220,10 +221,10 @@ topped : (names : List NameParts) (spaces : List Space) (tree : Given) (known : 
 topped names spaces given.end known = refl
 topped names spaces (given.text t rest) known = topped names spaces rest known
 topped names spaces (given.comment t rest) known = topped names spaces rest known
-topped names spaces (given.element name attributes content rest) known = by (is_sheet names name attributes) refl
+topped names spaces (given.element name attributes line content rest) known = by (is_sheet names name attributes) refl
   where
     by : (b : Bool) → is_sheet names name attributes ≡ b →
-        option_map outcome (run names spaces (at place.Before [] [] [] known) (items_of (given.element name attributes content rest))) ≡ told names spaces (given.element name attributes content rest) known
+        option_map outcome (run names spaces (at place.Before [] [] [] known) (items_of (given.element name attributes line content rest))) ≡ told names spaces (given.element name attributes line content rest) known
     by true e = rw e (
         ap (option_map outcome) (sheeted names spaces content [] [] known (item.Finish ∷ items_of rest))
         ∙ last (are_templates names spaces content) (run names spaces (at place.Behind [] [] (rules_in names spaces 0 content) (with_names known (matched_in spaces content))) (items_of rest))
@@ -231,27 +232,10 @@ topped names spaces (given.element name attributes content rest) known = by (is_
         (behind_all names spaces (items_of rest) [] [] (rules_in names spaces 0 content) (with_names known (matched_in spaces content))))
     by false e = rw e refl
 
--- numbers of lines change nothing
-after-without_line : (names : List NameParts) (spaces : List Space) (p : Progress) (x : TreeItem) → after names spaces p (without_line x) ≡ after names spaces p x
-after-without_line names spaces p (item.Begin name attributes line) = refl
-after-without_line names spaces p (item.Text t) = refl
-after-without_line names spaces p (item.Comment t) = refl
-after-without_line names spaces p item.Finish = refl
-
-run-without_line : (names : List NameParts) (spaces : List Space) (items : List TreeItem) (p : Progress) → run names spaces p (map without_line items) ≡ run names spaces p items
-run-without_line names spaces [] p = refl
-run-without_line names spaces (x ∷ items) p =
-    ap (option_and_then (λ q. run names spaces q (map without_line items))) (after-without_line names spaces p x) ∙ by (after names spaces p x) (λ q. run-without_line names spaces items q)
-  where
-    by : (o : Option Progress) → ((q : Progress) → run names spaces q (map without_line items) ≡ run names spaces q items) →
-        option_and_then (λ q. run names spaces q (map without_line items)) o ≡ option_and_then (λ q. run names spaces q items) o
-    by None further = refl
-    by (Some q) further = further q
-
-whole : (names : List NameParts) (spaces : List Space) (items : List TreeItem) (tree : Given) (known : List NameParts) → map without_line items ≡ items_of tree →
+whole : (names : List NameParts) (spaces : List Space) (items : List TreeItem) (tree : Given) (known : List NameParts) → items ≡ items_of tree →
     option_map outcome (run names spaces (progress no_reading known) items) ≡ told names spaces tree known
 whole names spaces items tree known same =
-    ap (option_map outcome) (sym (run-without_line names spaces items (progress no_reading known)) ∙ ap (run names spaces (progress no_reading known)) same) ∙ topped names spaces tree known
+    ap (option_map outcome) (ap (run names spaces (progress no_reading known)) same) ∙ topped names spaces tree known
 
 -- what is read is of the built form, and says these rules
 pub record IsTold (names : List NameParts) (spaces : List Space) (tree : Given) (known : List NameParts) (rules : List Rule) (new : List NameParts) : Type 0 where
@@ -269,12 +253,12 @@ refused true told e = cc
 refused false told e = refl
 
 pub read_told : (names : List NameParts) (spaces : List Space) (items : List TreeItem) (tree : Given) (known : List NameParts) (rules : List Rule) (new : List NameParts) →
-    option_map outcome (run names spaces (progress no_reading known) items) ≡ Some (rules, new) → map without_line items ≡ items_of tree → IsTold names spaces tree known rules new
+    option_map outcome (run names spaces (progress no_reading known) items) ≡ Some (rules, new) → items ≡ items_of tree → IsTold names spaces tree known rules new
 read_told names spaces items tree known rules new read same =
     let all = found (is_built names spaces tree) (rules_of names spaces tree) rules (with_names known (matched_names spaces tree)) new (sym (whole names spaces items tree known same) ∙ read) in
     record { built = all.0; said = all.1; matched = all.2 }
 
 pub read_refused : (names : List NameParts) (spaces : List Space) (items : List TreeItem) (tree : Given) (known : List NameParts) →
-    run names spaces (progress no_reading known) items ≡ None → map without_line items ≡ items_of tree → is_built names spaces tree ≡ false
+    run names spaces (progress no_reading known) items ≡ None → items ≡ items_of tree → is_built names spaces tree ≡ false
 read_refused names spaces items tree known read same =
     refused (is_built names spaces tree) (rules_of names spaces tree, with_names known (matched_names spaces tree)) (sym (whole names spaces items tree known same) ∙ ap (option_map outcome) read)

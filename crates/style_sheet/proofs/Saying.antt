@@ -2,13 +2,14 @@
 use Rattle.std.proofs.Common.{◌≡◌, ℕ, zero, suc, ◌+◌, Bool, false, not, ◌&&◌, List, [], ◌∷◌, ◌++◌, Some, slice_get, refl, ap, codes, arith}
 use Rattle.std.specs.Prelude.{if◌then◌else◌}
 use Rattle.std.specs.List.{list_all}
+use Rattle.serna_kinds.specs.Blanks.{is_blank}
 use Rattle.serna_kinds.specs.Names.{NameParts, Space}
 use Rattle.tree_lines.specs.Given.{Given}
 use Rattle.tree_lines.specs.Given as given
 use Rattle.style_sheet.specs.declared.style.Instruction.{Instruction}
 use Rattle.style_sheet.specs.declared.style.Instruction.TheVariants as instruction
 use Rattle.style_sheet.specs.declared.style.Rule.{Rule}
-use Rattle.style_sheet.specs.Styles.{xslt_uri, is_within, is_instruction, is_blank, text_in, texts_in, literal_in, keeps, body_in, pattern_of, match_of, rule_at, rules_in, rules_of}
+use Rattle.style_sheet.specs.Styles.{xslt_uri, is_within, is_instruction, text_in, texts_in, literal_in, keeps, body_in, pattern_of, match_of, rule_at, rules_in, rules_of}
 use Rattle.style_sheet.specs.Built.{has_texts_alone, has_nothing, has_none, is_plain_attribute, is_body, is_template, are_templates, is_sheet, is_built}
 use Rattle.style_sheet.specs.Comments.{without_comments}
 
@@ -16,19 +17,19 @@ texts-alone : (tree : Given) → has_texts_alone (without_comments tree) ≡ has
 texts-alone given.end = refl
 texts-alone (given.text t rest) = texts-alone rest
 texts-alone (given.comment t rest) = texts-alone rest
-texts-alone (given.element name attributes content rest) = refl
+texts-alone (given.element name attributes line content rest) = refl
 
 nothing : (tree : Given) → has_nothing (without_comments tree) ≡ has_nothing tree
 nothing given.end = refl
 nothing (given.text t rest) = ap (λ b. is_blank t && b) (nothing rest)
 nothing (given.comment t rest) = nothing rest
-nothing (given.element name attributes content rest) = refl
+nothing (given.element name attributes line content rest) = refl
 
 body-built : (names : List NameParts) (tree : Given) → is_body names (without_comments tree) ≡ is_body names tree
 body-built names given.end = refl
 body-built names (given.text t rest) = body-built names rest
 body-built names (given.comment t rest) = body-built names rest
-body-built names (given.element name attributes content rest) =
+body-built names (given.element name attributes line content rest) =
     let texts : has_texts_alone (without_comments content) ≡ has_texts_alone content = texts-alone content in
     let none : has_nothing (without_comments content) ≡ has_nothing content = nothing content in
     let inner : is_body names (without_comments content) ≡ is_body names content = body-built names content in
@@ -41,7 +42,7 @@ templates-built : (names : List NameParts) (spaces : List Space) (tree : Given) 
 templates-built names spaces given.end = refl
 templates-built names spaces (given.text t rest) = ap (λ b. is_blank t && b) (templates-built names spaces rest)
 templates-built names spaces (given.comment t rest) = templates-built names spaces rest
-templates-built names spaces (given.element name attributes content rest) =
+templates-built names spaces (given.element name attributes line content rest) =
     let inner : is_body names (without_comments content) ≡ is_body names content = body-built names content in
     let more : are_templates names spaces (without_comments rest) ≡ are_templates names spaces rest = templates-built names spaces rest in
     λ i. (is_template names spaces name attributes && inner i) && more i
@@ -50,19 +51,19 @@ pub comments-built : (names : List NameParts) (spaces : List Space) (tree : Give
 comments-built names spaces given.end = refl
 comments-built names spaces (given.text t rest) = comments-built names spaces rest
 comments-built names spaces (given.comment t rest) = comments-built names spaces rest
-comments-built names spaces (given.element name attributes content rest) = ap (λ b. is_sheet names name attributes && b) (templates-built names spaces content)
+comments-built names spaces (given.element name attributes line content rest) = ap (λ b. is_sheet names name attributes && b) (templates-built names spaces content)
 
 texts-said : (tree : Given) → texts_in (without_comments tree) ≡ texts_in tree
 texts-said given.end = refl
 texts-said (given.text t rest) = ap (λ (more : List Instruction). instruction.Text t ∷ more) (texts-said rest)
 texts-said (given.comment t rest) = texts-said rest
-texts-said (given.element name attributes content rest) = texts-said rest
+texts-said (given.element name attributes line content rest) = texts-said rest
 
 body-said : (names : List NameParts) (kept : Bool) (tree : Given) → body_in names kept (without_comments tree) ≡ body_in names kept tree
 body-said names kept given.end = refl
 body-said names kept (given.text t rest) = ap (λ more. text_in kept t ++ more) (body-said names kept rest)
 body-said names kept (given.comment t rest) = body-said names kept rest
-body-said names kept (given.element name attributes content rest) =
+body-said names kept (given.element name attributes line content rest) =
     let texts : texts_in (without_comments content) ≡ texts_in content = texts-said content in
     let inner : body_in names (keeps names kept attributes) (without_comments content) ≡ body_in names (keeps names kept attributes) content = body-said names (keeps names kept attributes) content in
     let more : body_in names kept (without_comments rest) ≡ body_in names kept rest = body-said names kept rest in
@@ -74,7 +75,7 @@ templates-said : (names : List NameParts) (spaces : List Space) (n : ℕ) (tree 
 templates-said names spaces n given.end = refl
 templates-said names spaces n (given.text t rest) = templates-said names spaces n rest
 templates-said names spaces n (given.comment t rest) = templates-said names spaces n rest
-templates-said names spaces n (given.element name attributes content rest) =
+templates-said names spaces n (given.element name attributes line content rest) =
     let inner : body_in names false (without_comments content) ≡ body_in names false content = body-said names false content in
     let more : rules_in names spaces (n + 1) (without_comments rest) ≡ rules_in names spaces (n + 1) rest = templates-said names spaces (n + 1) rest in
     λ i. rule_at n (pattern_of names spaces (match_of attributes)) (inner i) ∷ more i
@@ -83,17 +84,17 @@ pub comments-said : (names : List NameParts) (spaces : List Space) (tree : Given
 comments-said names spaces given.end = refl
 comments-said names spaces (given.text t rest) = comments-said names spaces rest
 comments-said names spaces (given.comment t rest) = comments-said names spaces rest
-comments-said names spaces (given.element name attributes content rest) = templates-said names spaces 0 content
+comments-said names spaces (given.element name attributes line content rest) = templates-said names spaces 0 content
 
 place_in : (names : List NameParts) (spaces : List Space) (n : ℕ) (tree : Given) (number : ℕ) (rule : Rule) → slice_get (rules_in names spaces n tree) number ≡ Some rule → rule.place ≡ n + number
 place_in names spaces n given.end number rule is = cc
 place_in names spaces n (given.text t rest) number rule is = place_in names spaces n rest number rule is
 place_in names spaces n (given.comment t rest) number rule is = place_in names spaces n rest number rule is
-place_in names spaces n (given.element name attributes content rest) zero rule is =
+place_in names spaces n (given.element name attributes line content rest) zero rule is =
     let first : rule_at n (pattern_of names spaces (match_of attributes)) (body_in names false content) ≡ rule = cc in
     let same : n ≡ rule.place = ap (λ (r : Rule). r.place) first in
     omega arith
-place_in names spaces n (given.element name attributes content rest) (suc number) rule is =
+place_in names spaces n (given.element name attributes line content rest) (suc number) rule is =
     let later : rule.place ≡ n + 1 + number = place_in names spaces (n + 1) rest number rule is in
     omega arith
 
@@ -101,4 +102,4 @@ pub place_of : (names : List NameParts) (spaces : List Space) (tree : Given) (nu
 place_of names spaces given.end number rule is = cc
 place_of names spaces (given.text t rest) number rule is = place_of names spaces rest number rule is
 place_of names spaces (given.comment t rest) number rule is = place_of names spaces rest number rule is
-place_of names spaces (given.element name attributes content rest) number rule is = omega (arith, place_in names spaces 0 content number rule is)
+place_of names spaces (given.element name attributes line content rest) number rule is = omega (arith, place_in names spaces 0 content number rule is)

@@ -3,7 +3,7 @@ use Rattle.std.proofs.Common.{◌≡◌, ℕ, ◌+◌, ◌*◌, ◌^◌, ◌<◌
 use Rattle.std.specs.Prelude.{if◌then◌else◌}
 use Rattle.std.specs.List.{list_all}
 use Rattle.std.specs.Option.{option_map}
-use Rattle.std.proofs.lemmas.List.{length-map, length_push}
+use Rattle.std.proofs.lemmas.List.{length_push}
 use Rattle.serna_kinds.specs.declared.cells.NameId.{NameId}
 use Rattle.serna_kinds.specs.declared.cells.AttrPair.{AttrPair}
 use Rattle.serna_kinds.specs.Names.{NameParts, Space, Grows}
@@ -12,7 +12,7 @@ use Rattle.tree_lines.specs.declared.tree.TreeItem.{TreeItem}
 use Rattle.tree_lines.specs.declared.tree.TreeItem.TheVariants as item
 use Rattle.tree_lines.specs.Given.{Given, items_of, count_of}
 use Rattle.tree_lines.specs.Given as given
-use Rattle.tree_lines.specs.Tokens.{AreNamed, without_line, with_names}
+use Rattle.tree_lines.specs.Tokens.{AreNamed, with_names}
 use Rattle.tree_lines.specs.Whole.{IsTree}
 use Rattle.style_sheet.specs.declared.style.Instruction.{Instruction}
 use Rattle.style_sheet.specs.declared.style.Instruction.TheVariants as instruction
@@ -22,19 +22,19 @@ use Rattle.style_sheet.specs.declared.reader.Place.TheVariants as place
 use Rattle.style_sheet.specs.Styles.{xslt_uri, is_within, is_instruction, attribute_in, keeps, pattern_of, match_of, matched_name, rule_at}
 use Rattle.style_sheet.specs.Built.{has_none, is_plain_attribute, is_template, is_sheet, is_built}
 use Rattle.style_sheet.specs.Steps.{Reading, Progress, progress, no_reading, saying, within, at_place, text_at, after_inner, begin_at, finish_at, knowing, after, run, outcome}
-use Rattle.style_sheet.proofs.Grown.{AreNamed-without_line, built-grown}
+use Rattle.style_sheet.proofs.Grown.{built-grown}
 use Rattle.style_sheet.proofs.Running.{IsTold, read_told, read_refused}
 
-of_tree : (names : List NameParts) (items : List TreeItem) (tree : Given) → AreNamed names items → map without_line items ≡ items_of tree → AreNamed names (items_of tree)
-of_tree names items tree known same = subst (AreNamed names) same (AreNamed-without_line names items known)
+of_tree : (names : List NameParts) (items : List TreeItem) (tree : Given) → AreNamed names items → items ≡ items_of tree → AreNamed names (items_of tree)
+of_tree names items tree known same = subst (AreNamed names) same known
 
-pub built_before : (old new : List NameParts) (spaces : List Space) (items : List TreeItem) (tree : Given) (rules : List Rule) → AreNamed old items → Grows old new → map without_line items ≡ items_of tree →
+pub built_before : (old new : List NameParts) (spaces : List Space) (items : List TreeItem) (tree : Given) (rules : List Rule) → AreNamed old items → Grows old new → items ≡ items_of tree →
     ((table : List NameParts) → Grows new table → option_map outcome (run table spaces (progress no_reading old) items) ≡ Some (rules, new)) → is_built old spaces tree ≡ true
 built_before old new spaces items tree rules known grown same read =
     let told : IsTold new spaces tree old rules new = read_told new spaces items tree old rules new (read new (Grows-refl new)) same in
     sym (built-grown old new spaces tree grown (of_tree old items tree known same)) ∙ told.built
 
-pub refused_before : (old new : List NameParts) (spaces : List Space) (items : List TreeItem) (tree : Given) → AreNamed old items → Grows old new → map without_line items ≡ items_of tree →
+pub refused_before : (old new : List NameParts) (spaces : List Space) (items : List TreeItem) (tree : Given) → AreNamed old items → Grows old new → items ≡ items_of tree →
     ((table : List NameParts) → Grows new table → run table spaces (progress no_reading old) items ≡ None) → is_built old spaces tree ≡ false
 refused_before old new spaces items tree known grown same read =
     sym (built-grown old new spaces tree grown (of_tree old items tree known same)) ∙ read_refused new spaces items tree old (read new (Grows-refl new)) same
@@ -49,10 +49,10 @@ few_items : (tree : Given) → length (items_of tree) ≤ 2 * count_of tree
 few_items given.end = omega arith
 few_items (given.text t rest) = omega (arith, few_items rest)
 few_items (given.comment t rest) = omega (arith, few_items rest)
-few_items (given.element name attributes content rest) = omega (arith, few_items content, few_items rest, length-append (items_of content) (item.Finish ∷ items_of rest))
+few_items (given.element name attributes line content rest) = omega (arith, few_items content, few_items rest, length-append (items_of content) (item.Finish ∷ items_of rest))
 
 pub tree_few : (items : List TreeItem) → IsTree items → length items < 2 ^ 32
-tree_few items tree = omega (arith, length-map items without_line, ap length tree.same, few_items tree.given, tree.whole.few)
+tree_few items tree = omega (arith, ap length tree.same, few_items tree.given, tree.whole.few)
 
 -- how many rules are read
 abbrev count : Option Progress → ℕ

@@ -3,25 +3,26 @@ use Rattle.std.specs.Prelude.{ℕ, ◌==◌, ◌&&◌, ◌||◌, not, Bool, true
 use Rattle.std.specs.List.{list_all, list_any}
 use Rattle.serna_kinds.specs.declared.cells.NameId.{NameId}
 use Rattle.serna_kinds.specs.declared.cells.AttrPair.{AttrPair}
+use Rattle.serna_kinds.specs.Blanks.{is_blank}
 use Rattle.serna_kinds.specs.Names.{NameParts, Space}
 use Rattle.serna_kinds.specs.Qualified.{prefix_of, is_name, attribute_uri}
 use Rattle.tree_lines.specs.Given.{Given}
 use Rattle.tree_lines.specs.Given as given
-use Rattle.style_sheet.specs.Styles.{xslt_uri, is_within, is_named, is_instruction, is_blank, is_word, root_pattern, match_of}
+use Rattle.style_sheet.specs.Styles.{xslt_uri, is_within, is_named, is_instruction, is_word, root_pattern, match_of}
 
 -- nothing but texts and comments
 abbrev pub has_texts_alone : Given → Bool
 has_texts_alone given.end = true
 has_texts_alone (given.text t rest) = has_texts_alone rest
 has_texts_alone (given.comment t rest) = has_texts_alone rest
-has_texts_alone (given.element name attributes content rest) = false
+has_texts_alone (given.element name attributes line content rest) = false
 
 -- nothing but comments and texts of white space
 abbrev pub has_nothing : Given → Bool
 has_nothing given.end = true
 has_nothing (given.text t rest) = is_blank t && has_nothing rest
 has_nothing (given.comment t rest) = has_nothing rest
-has_nothing (given.element name attributes content rest) = false
+has_nothing (given.element name attributes line content rest) = false
 
 abbrev pub has_none : List AttrPair → Bool
 has_none [] = true
@@ -41,7 +42,7 @@ abbrev pub is_body : List NameParts → Given → Bool
 is_body names given.end = true
 is_body names (given.text t rest) = is_body names rest
 is_body names (given.comment t rest) = is_body names rest
-is_body names (given.element name attributes content rest) =
+is_body names (given.element name attributes line content rest) =
     (if is_instruction names (codes "text") name then has_none attributes && has_texts_alone content
     else if is_instruction names (codes "apply-templates") name then has_none attributes && has_nothing content
     else not (is_within names xslt_uri name) && list_all (is_plain_attribute names) attributes && is_body names content)
@@ -66,7 +67,7 @@ abbrev pub are_templates : List NameParts → List Space → Given → Bool
 are_templates names spaces given.end = true
 are_templates names spaces (given.text t rest) = is_blank t && are_templates names spaces rest
 are_templates names spaces (given.comment t rest) = are_templates names spaces rest
-are_templates names spaces (given.element name attributes content rest) =
+are_templates names spaces (given.element name attributes line content rest) =
     is_template names spaces name attributes && is_body names content && are_templates names spaces rest
 
 -- the outermost element's one attribute is `version`
@@ -77,5 +78,5 @@ abbrev pub is_built : List NameParts → List Space → Given → Bool
 is_built names spaces given.end = true
 is_built names spaces (given.text t rest) = is_built names spaces rest
 is_built names spaces (given.comment t rest) = is_built names spaces rest
-is_built names spaces (given.element name attributes content rest) =
+is_built names spaces (given.element name attributes line content rest) =
     is_sheet names name attributes && are_templates names spaces content

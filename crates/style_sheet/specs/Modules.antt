@@ -1,8 +1,8 @@
 -- The modules that a stylesheet is made of; at most one, so far.
-use Rattle.std.specs.Prelude.{◌≡◌, true, List, [], ◌∷◌, map}
+use Rattle.std.specs.Prelude.{◌≡◌, true, List, [], ◌∷◌}
 use Rattle.serna_kinds.specs.Names.{NameParts}
 use Rattle.tree_lines.specs.Given.{Given, items_of}
-use Rattle.tree_lines.specs.Tokens.{without_line, AreNamed, with_names}
+use Rattle.tree_lines.specs.Tokens.{AreNamed, with_names}
 use Rattle.style_sheet.specs.declared.style.Rule.{Rule}
 use Rattle.style_sheet.specs.declared.reading.Module.{Module}
 use Rattle.style_sheet.specs.Styles.{rules_of, matched_names}
@@ -15,7 +15,7 @@ AreNamedModules names (module_ ∷ modules) = AreNamed names module_.tree.items 
 
 -- the tree of a module
 abbrev pub IsTreeOf : Module → Given → Type 0
-IsTreeOf module_ tree = map without_line module_.tree.items ≡ items_of tree
+IsTreeOf module_ tree = module_.tree.items ≡ items_of tree
 
 -- the modules are of the built form: none, or one that is
 abbrev pub AreBuilt : List NameParts → List Module → Type 0

@@ -4,6 +4,7 @@ use Rattle.std.specs.List.{list_all}
 use Rattle.std.specs.Option.{option_map, option_and_then}
 use Rattle.serna_kinds.specs.declared.cells.NameId.{NameId}
 use Rattle.serna_kinds.specs.declared.cells.AttrPair.{AttrPair}
+use Rattle.serna_kinds.specs.Blanks.{is_blank}
 use Rattle.serna_kinds.specs.Names.{NameParts, Space}
 use Rattle.tree_lines.specs.declared.tree.TreeItem.{TreeItem}
 use Rattle.tree_lines.specs.declared.tree.TreeItem.TheVariants as item
@@ -13,7 +14,7 @@ use Rattle.style_sheet.specs.declared.style.Instruction.TheVariants as instructi
 use Rattle.style_sheet.specs.declared.style.Rule.{Rule}
 use Rattle.style_sheet.specs.declared.reader.Place.{Place}
 use Rattle.style_sheet.specs.declared.reader.Place.TheVariants as place
-use Rattle.style_sheet.specs.Styles.{is_blank, text_in, attribute_in, keeps, is_within, is_instruction, xslt_uri, pattern_of, match_of, matched_name, rule_at}
+use Rattle.style_sheet.specs.Styles.{text_in, attribute_in, keeps, is_within, is_instruction, xslt_uri, pattern_of, match_of, matched_name, rule_at}
 use Rattle.style_sheet.specs.Built.{has_none, is_plain_attribute, is_template, is_sheet}
 
 -- what is read so far: where the next item stands, the elements around that place, the innermost first, the body of a template that has

@@ -1,10 +1,10 @@
 -- The rules that a stylesheet's tree says (XSLT 1.0, sections 2.2, 3.4, 5, 7.1.1 and 7.2), in the form that is built: rules for the
 -- document node and for elements of a name, whose bodies have text, elements of the result and `xsl:apply-templates`.
-use Rattle.std.specs.Prelude.{ℕ, ◌+◌, ◌==◌, ◌&&◌, ◌||◌, not, Bool, true, false, List, [], ◌∷◌, ◌++◌, map, slice_get, pos, bytes_eq, codes, encode_utf8_all, Option, Some, None, if◌then◌else◌}
-use Rattle.std.specs.List.{list_all}
+use Rattle.std.specs.Prelude.{ℕ, ◌+◌, ◌&&◌, not, Bool, true, false, List, [], ◌∷◌, ◌++◌, map, slice_get, pos, bytes_eq, codes, encode_utf8_all, Option, Some, None, if◌then◌else◌}
 use Rattle.std.specs.Option.{option_map_or}
 use Rattle.serna_kinds.specs.declared.cells.NameId.{NameId}
 use Rattle.serna_kinds.specs.declared.cells.AttrPair.{AttrPair}
+use Rattle.serna_kinds.specs.Blanks.{is_blank}
 use Rattle.serna_kinds.specs.Names.{NameParts, Space, id_of}
 use Rattle.serna_kinds.specs.Qualified.{xml_uri, attribute_name}
 use Rattle.tree_lines.specs.Given.{Given}
@@ -34,13 +34,6 @@ is_instruction names local id = is_named names xslt_uri local id
 
 -- White space
 
--- space, tab, CR and LF (XML 1.0, section 2.3)
-abbrev pub is_space : ℕ → Bool
-is_space c = c == 32 || c == 9 || c == 13 || c == 10
-
-abbrev pub is_blank : List ℕ → Bool
-is_blank text = list_all is_space text
-
 -- a text is this word, of ASCII characters
 abbrev pub is_word : List ℕ → List ℕ → Bool
 is_word text word = bytes_eq (encode_utf8_all text) word
@@ -69,7 +62,7 @@ abbrev pub texts_in : Given → List Instruction
 texts_in given.end = []
 texts_in (given.text t rest) = instruction.Text t ∷ texts_in rest
 texts_in (given.comment t rest) = texts_in rest
-texts_in (given.element name attributes content rest) = texts_in rest
+texts_in (given.element name attributes line content rest) = texts_in rest
 
 abbrev pub attribute_in : AttrPair → Instruction
 attribute_in pair = instruction.Attribute pair.name pair.value
@@ -83,7 +76,7 @@ abbrev pub body_in : List NameParts → Bool → Given → List Instruction
 body_in names kept given.end = []
 body_in names kept (given.text t rest) = text_in kept t ++ body_in names kept rest
 body_in names kept (given.comment t rest) = body_in names kept rest
-body_in names kept (given.element name attributes content rest) =
+body_in names kept (given.element name attributes line content rest) =
     (if is_instruction names (codes "text") name then texts_in content
     else if is_instruction names (codes "apply-templates") name then instruction.ApplyTemplates ∷ []
     else literal_in name attributes (body_in names (keeps names kept attributes) content))
@@ -117,7 +110,7 @@ abbrev pub rules_in : List NameParts → List Space → ℕ → Given → List R
 rules_in names spaces place given.end = []
 rules_in names spaces place (given.text t rest) = rules_in names spaces place rest
 rules_in names spaces place (given.comment t rest) = rules_in names spaces place rest
-rules_in names spaces place (given.element name attributes content rest) =
+rules_in names spaces place (given.element name attributes line content rest) =
     rule_at place (pattern_of names spaces (match_of attributes)) (body_in names false content) ∷ rules_in names spaces (place + 1) rest
 
 -- the rules of a stylesheet: those of the templates in its outermost element
@@ -125,7 +118,7 @@ abbrev pub rules_of : List NameParts → List Space → Given → List Rule
 rules_of names spaces given.end = []
 rules_of names spaces (given.text t rest) = rules_of names spaces rest
 rules_of names spaces (given.comment t rest) = rules_of names spaces rest
-rules_of names spaces (given.element name attributes content rest) = rules_in names spaces 0 content
+rules_of names spaces (given.element name attributes line content rest) = rules_in names spaces 0 content
 
 -- the names that the rules of neighbours are for
 abbrev pub matched_name : List Space → List ℕ → List NameParts
@@ -135,10 +128,10 @@ abbrev pub matched_in : List Space → Given → List NameParts
 matched_in spaces given.end = []
 matched_in spaces (given.text t rest) = matched_in spaces rest
 matched_in spaces (given.comment t rest) = matched_in spaces rest
-matched_in spaces (given.element name attributes content rest) = matched_name spaces (match_of attributes) ++ matched_in spaces rest
+matched_in spaces (given.element name attributes line content rest) = matched_name spaces (match_of attributes) ++ matched_in spaces rest
 
 abbrev pub matched_names : List Space → Given → List NameParts
 matched_names spaces given.end = []
 matched_names spaces (given.text t rest) = matched_names spaces rest
 matched_names spaces (given.comment t rest) = matched_names spaces rest
-matched_names spaces (given.element name attributes content rest) = matched_in spaces content
+matched_names spaces (given.element name attributes line content rest) = matched_in spaces content

@@ -2,20 +2,18 @@
 ghost use Rattle.std.specs.Prelude.{◌≡◌, not, ◌&&◌, true, false, List, IsSome, is_some, IfSome, IfOk, OnOk, Err, codes, slice_get};
 ghost use Rattle.std.specs.List.{list_all};
 ghost use Rattle.serna_kinds.specs.Names.{NameParts, Grows};
-ghost use Rattle.tree_lines.specs.Tokens.{AreApart, with_names};
+ghost use Rattle.serna_kinds.specs.Apart.{AreApart};
+ghost use Rattle.tree_lines.specs.Tokens.{with_names};
 ghost use Rattle.style_sheet.specs.Styles.{xslt_uri, is_within, is_named, is_instruction, space_of, keeps, pattern_of, matched_name, match_of};
 ghost use Rattle.style_sheet.specs.Built.{is_plain_attribute, is_pattern, has_alone, is_template, is_sheet};
 
 use crate::texts::{has_brace, is_word};
 use crate::{Pattern, StyleFault};
-use serna_kinds::{AttrPair, Chars, NameId, NameTable, Spaces, WrittenName, is_name};
+use serna_kinds::{AttrPair, Chars, NameId, NameTable, Spaces, WrittenName, XML_URI, is_name};
 use std::alloc::Global;
 
 // The namespace of instructions (XSLT 1.0, section 2.1).
 const XSLT_URI: &str = "http://www.w3.org/1999/XSL/Transform";
-
-// The namespace of `xml:space` (XML 1.0, section 2.10).
-const XML_URI: &str = "http://www.w3.org/XML/1998/namespace";
 
 const ROOT: &str = "/";
 

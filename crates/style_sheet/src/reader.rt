@@ -1,8 +1,10 @@
 //! A stylesheet read item by item.
 ghost use Rattle.std.specs.Prelude.{◌≡◌, ◌^◌, ◌<◌, List, Some, None, Err, IsSome, OnOk, true, false, length, map, slice_get, pos, [], ◌∷◌, if◌then◌else◌};
 ghost use Rattle.serna_kinds.specs.Names.{NameParts, Grows};
-ghost use Rattle.tree_lines.specs.Tokens.{AreApart, IsNamed};
-ghost use Rattle.style_sheet.specs.Styles.{attribute_in, is_blank, text_in, priority_of, rule_at};
+ghost use Rattle.serna_kinds.specs.Apart.{AreApart};
+ghost use Rattle.serna_kinds.specs.Blanks.{is_blank};
+ghost use Rattle.tree_lines.specs.Tokens.{IsNamed};
+ghost use Rattle.style_sheet.specs.Styles.{attribute_in, text_in, priority_of, rule_at};
 ghost use Rattle.style_sheet.specs.Built.{has_none, is_sheet};
 ghost use Rattle.style_sheet.specs.declared.style.Instruction.TheVariants as instruction;
 ghost use Rattle.style_sheet.specs.Steps.{no_reading, saying, within, out, at_place, with_rule, after_text, after_literal, after_inner, after_template, begin_at, finish_at, after, progress};

@@ -1,7 +1,7 @@
-ghost use Rattle.std.specs.Prelude.{◌≡◌, ◌<◌, ◌^◌, true, List, length, map, IfOk, OnOk, Err, Some, None};
+ghost use Rattle.std.specs.Prelude.{◌≡◌, ◌<◌, ◌^◌, true, List, length, IfOk, OnOk, Err, Some, None};
 ghost use Rattle.std.specs.Option.{option_map};
 ghost use Rattle.tree_lines.specs.Given.{Given, items_of};
-ghost use Rattle.tree_lines.specs.Tokens.{AreNamed, without_line, with_names};
+ghost use Rattle.tree_lines.specs.Tokens.{AreNamed, with_names};
 ghost use Rattle.style_sheet.specs.Styles.{rules_of, matched_names};
 ghost use Rattle.style_sheet.specs.Built.{is_built};
 ghost use Rattle.style_sheet.specs.Steps.{no_reading, progress, outcome, run};
@@ -74,10 +74,10 @@ pub fn compile(
 // The rules of the one module.
 fn style_of(alloc: Global, tree: &Tree, names: &mut NameTable) -> Result<Style, StyleFault>
     requires named { AreNamed names.old tree.now.items }
-    ensures built { OnOk result ((given : Given) → map without_line tree.now.items ≡ items_of given → is_built names.old tree.now.spaces given ≡ true) }
-    ensures rules { IfOk result (λ style. (table : List NameParts) → Grows names.new table → (given : Given) → map without_line tree.now.items ≡ items_of given → style ≡ rules_of table tree.now.spaces given) }
-    ensures refused { result ≡ Err StyleFault.NotBuilt → ((given : Given) → map without_line tree.now.items ≡ items_of given → is_built names.old tree.now.spaces given ≡ true) → ⊥ }
-    ensures table { OnOk result ((given : Given) → map without_line tree.now.items ≡ items_of given → names.new ≡ with_names names.old (matched_names tree.now.spaces given)) }
+    ensures built { OnOk result ((given : Given) → tree.now.items ≡ items_of given → is_built names.old tree.now.spaces given ≡ true) }
+    ensures rules { IfOk result (λ style. (table : List NameParts) → Grows names.new table → (given : Given) → tree.now.items ≡ items_of given → style ≡ rules_of table tree.now.spaces given) }
+    ensures refused { result ≡ Err StyleFault.NotBuilt → ((given : Given) → tree.now.items ≡ items_of given → is_built names.old tree.now.spaces given ≡ true) → ⊥ }
+    ensures table { OnOk result ((given : Given) → tree.now.items ≡ items_of given → names.new ≡ with_names names.old (matched_names tree.now.spaces given)) }
     ensures grows { Grows names.old names.new }
 {
     let rules = rules_of(alloc, tree.items(), tree.spaces(), names)?;

@@ -26,7 +26,7 @@ fn style_of(alloc: Global, text: &str, names: &mut NameTable) -> Result<Style, S
     let Ok(tree) = read_tree(alloc, &lines, names) else {
         return Err(StyleFault::NoMemory);
     };
-    let name = Chars::new(alloc);
+    let name = Chars::new(alloc)?;
     compile(alloc, &[Module { name, tree }], names)
 }
 

@@ -1,22 +1,16 @@
 //! What the texts of a stylesheet are.
 ghost use Rattle.std.specs.Prelude.{◌≡◌, bytes_eq, encode_utf8_all};
 ghost use Rattle.std.specs.List.{list_any};
-ghost use Rattle.style_sheet.specs.Styles.{is_space, is_blank};
+ghost use Rattle.serna_kinds.specs.Blanks.{is_blank};
 ghost use Rattle.style_sheet.specs.Built.{is_brace};
 
 use serna_kinds::Chars;
-
-fn is_space(character: char) -> bool
-    ensures { result ≡ is_space character }
-{
-    matches!(character, ' ' | '\t' | '\r' | '\n')
-}
 
 // Whether a text is white space alone.
 pub(crate) fn is_blank(text: &Chars) -> bool
     ensures { result ≡ is_blank text.now }
 {
-    text.as_text().chars().all(is_space)
+    serna_kinds::is_blank(text.as_text())
 }
 
 fn is_brace(character: char) -> bool

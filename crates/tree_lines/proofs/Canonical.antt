@@ -11,8 +11,7 @@ use Rattle.tree_lines.specs.declared.tree.TreeItem.{TreeItem}
 use Rattle.tree_lines.specs.declared.tree.TreeItem.TheVariants as item
 use Rattle.tree_lines.specs.Given.{Given, items_of}
 use Rattle.tree_lines.specs.Given as given
-use Rattle.tree_lines.specs.Tokens.{without_line}
-use Rattle.tree_lines.specs.Canonical.{escape_of, escaped, text_line, comment_line, begin_lines, outermost_lines, end_line, canonical_lines, document_lines, line_text, text_of_lines, canonical_text, declaration_line}
+use Rattle.tree_lines.specs.Canonical.{escape_of, escaped, text_line, comment_line, begin_lines, outermost_lines, end_line, canonical_lines, line_text, text_of_lines, canonical_text, declaration_line}
 use Rattle.tree_lines.specs.Writing.{items_text}
 
 -- a character more
@@ -59,21 +58,11 @@ abbrev pub text_of : List NameParts → Given → List ℕ
 text_of names tree = text_of_lines (canonical_lines names tree)
 
 -- the canonical text of an element and what follows it
-pub text_of-element : (names : List NameParts) (name : NameId) (attributes : List AttrPair) (content rest : Given)
-    → text_of names (given.element name attributes content rest)
+pub text_of-element : (names : List NameParts) (name : NameId) (attributes : List AttrPair) (line : ℕ) (content rest : Given)
+    → text_of names (given.element name attributes line content rest)
     ≡ text_of_lines (begin_lines names name attributes) ++ (text_of names content ++ (line_text (end_line names name) ++ text_of names rest))
-text_of-element names name attributes content rest =
+text_of-element names name attributes line content rest =
     text-parts (begin_lines names name attributes) (canonical_lines names content) (canonical_lines names rest) (end_line names name)
-
--- the numbers of the lines are not written
-pub items_text-without_line : (names : List NameParts) (spaces : List Space) (outer : List NameId) (items : List TreeItem) → items_text names spaces outer (map without_line items) ≡ items_text names spaces outer items
-items_text-without_line names spaces outer [] = refl
-items_text-without_line names spaces outer (item.Begin n a l ∷ rest) =
-    ap (λ (x : List ℕ). text_of_lines (outermost_lines names spaces n a) ++ x) (items_text-without_line names [] (n ∷ outer) rest)
-items_text-without_line names spaces outer (item.Text t ∷ rest) = ap (λ (x : List ℕ). line_text (text_line t) ++ x) (items_text-without_line names spaces outer rest)
-items_text-without_line names spaces outer (item.Comment t ∷ rest) = ap (λ (x : List ℕ). line_text (comment_line t) ++ x) (items_text-without_line names spaces outer rest)
-items_text-without_line names spaces [] (item.Finish ∷ rest) = items_text-without_line names spaces [] rest
-items_text-without_line names spaces (n ∷ outer) (item.Finish ∷ rest) = ap (λ (x : List ℕ). line_text (end_line names n) ++ x) (items_text-without_line names spaces outer rest)
 
 regrouped : (a b c d e : List ℕ) → a ++ (b ++ (c ++ (d ++ e))) ≡ (a ++ (b ++ (c ++ d))) ++ e
 regrouped a b c d e = simp append_assoc
@@ -87,7 +76,7 @@ items_text-given names outer (given.text t rest) more =
 items_text-given names outer (given.comment t rest) more =
     ap (λ (x : List ℕ). line_text (comment_line t) ++ x) (items_text-given names outer rest more)
     ∙ sym (append_assoc (line_text (comment_line t)) (text_of names rest) (items_text names [] outer more))
-items_text-given names outer (given.element n a content rest) more =
+items_text-given names outer (given.element n a l content rest) more =
     let first : List ℕ = text_of_lines (begin_lines names n a) in
     let inside : List ℕ = text_of names content in
     let last : List ℕ = line_text (end_line names n) in
@@ -99,14 +88,14 @@ items_text-given names outer (given.element n a content rest) more =
     ∙ ap (λ (x : List ℕ). first ++ x) (items_text-given names (n ∷ outer) content (item.Finish ∷ (items_of rest ++ more)))
     ∙ ap (λ (x : List ℕ). first ++ (inside ++ (last ++ x))) (items_text-given names outer rest more)
     ∙ regrouped first inside last behind after
-    ∙ ap (λ (x : List ℕ). x ++ after) (sym (text_of-element names n a content rest))
+    ∙ ap (λ (x : List ℕ). x ++ after) (sym (text_of-element names n a l content rest))
 
 -- the items of a whole tree are written as its canonical text
 pub items_text-document : (names : List NameParts) (spaces : List Space) (tree : Given) → items_text names spaces [] (items_of tree) ≡ canonical_text names spaces tree
 items_text-document names spaces given.end = refl
 items_text-document names spaces (given.text t rest) = ap (λ (x : List ℕ). line_text (text_line t) ++ x) (items_text-document names spaces rest)
 items_text-document names spaces (given.comment t rest) = ap (λ (x : List ℕ). line_text (comment_line t) ++ x) (items_text-document names spaces rest)
-items_text-document names spaces (given.element n a content rest) =
+items_text-document names spaces (given.element n a l content rest) =
     let first : List ℕ = text_of_lines (outermost_lines names spaces n a) in
     let inside : List ℕ = text_of names content in
     let last : List ℕ = line_text (end_line names n) in
@@ -118,6 +107,6 @@ items_text-document names spaces (given.element n a content rest) =
 
 -- so what was written of all the items is the canonical text of their tree
 pub canonical_text-from_items : (names : List NameParts) (spaces : List Space) (items : List TreeItem) (tree : Given) (text : List ℕ)
-    → text ++ [] ≡ items_text names spaces [] items → map without_line items ≡ items_of tree → text ≡ canonical_text names spaces tree
+    → text ++ [] ≡ items_text names spaces [] items → items ≡ items_of tree → text ≡ canonical_text names spaces tree
 canonical_text-from_items names spaces items tree text written same =
-    sym (append-nil text) ∙ written ∙ sym (items_text-without_line names spaces [] items) ∙ ap (items_text names spaces []) same ∙ items_text-document names spaces tree
+    sym (append-nil text) ∙ written ∙ ap (items_text names spaces []) same ∙ items_text-document names spaces tree

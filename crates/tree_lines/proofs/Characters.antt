@@ -1,8 +1,8 @@
 -- Characters of a text and its bytes.
-use Rattle.std.proofs.Common.{◌≡◌, ℕ, eqb, Bool, true, false, cond, List, [], ◌∷◌, ◌++◌, Result, Ok, Err, is_ok, OnOk, OnErr, ◌+◌, length, length-append, refl, sym, ◌∙◌, ap, append-nil, arith, rules, tests}
+use Rattle.std.proofs.Common.{◌≡◌, ℕ, Bool, true, false, cond, List, [], ◌∷◌, ◌++◌, Result, Ok, Err, is_ok, OnOk, OnErr, ◌+◌, length, length-append, refl, sym, ◌∙◌, ap, append-nil, arith}
 use Rattle.std.specs.List.{list_all}
 use Rattle.std.specs.Str.{chars, IsUtf8, is_utf8}
-use Rattle.std.proofs.lemmas.Str.{encodes-append, chars-nil, chars-append, chars-encodes, encodes-chars, IsUtf8-from_is_utf8, is_utf8-from_IsUtf8}
+use Rattle.std.proofs.lemmas.Str.{encodes-append, chars-nil, chars-append, chars-encodes, IsUtf8-from_is_utf8, is_utf8-from_IsUtf8}
 use Rattle.tree_lines.specs.Texts.{is_allowed, is_line, size_of}
 use lib.Utf8.{encode, encodes, scalar, scalars}
 

@@ -12,12 +12,14 @@ use Rattle.tree_lines.specs.declared.rules.LineRule.TheVariants as rule
 use Rattle.tree_lines.specs.Tags.{Tag, tag_of, is_declaration}
 use Rattle.tree_lines.specs.Tags as tag
 use Rattle.tree_lines.specs.Before.{OpenElement, open_element, without_innermost, opened, open_elements, is_begin, has_element, takes_attribute_behind, takes_attribute}
-use Rattle.tree_lines.specs.Faults.{is_nothing, is_innermost, said_fault, line_fault, end_fault, fault_behind, fault_of}
+use Rattle.tree_lines.specs.LeftOpen.{left_open}
+use Rattle.tree_lines.specs.Faults.{is_nothing, is_innermost, said_fault, ending_fault, fault_behind, fault_of}
 use Rattle.tree_lines.specs.Written.{Written, Attribute, attribute_bytes, written_lines}
 use Rattle.tree_lines.specs.Written as written
 use Rattle.tree_lines.specs.Documents.{AreComments, IsTop, AreParted, IsDocument}
 use Rattle.tree_lines.specs.Declarations.{spaces_in}
-use Rattle.tree_lines.proofs.RulesKept.{or_later-none, line_fault-none, begin-none, attribute-none, text-none, finish-none}
+use Rattle.tree_lines.proofs.LineFacts.{fault_behind-parts, line_fault-parts}
+use Rattle.tree_lines.proofs.RulesKept.{begin-none, attribute-none, text-none, finish-none}
 use Rattle.tree_lines.proofs.LineTags.{line_of, line_of-tag}
 
 -- what stands outside the outermost element: comments behind it, and it with comments beside it where it has not begun
@@ -156,7 +158,7 @@ attribute_left takes begun opens name value lines may good h =
     }
 
 -- the end of the lines
-end_closes : (opens : List OpenElement) (before : List (List ℕ)) → end_fault opens before ≡ None → Closes (has_element before) opens []
+end_closes : (opens : List OpenElement) (before : List (List ℕ)) → ending_fault opens (has_element before) (length before) ≡ None → Closes (has_element before) opens []
 end_closes (x ∷ outer) before e = absurd (none-some (x.place, rule.Unclosed) (sym e))
 end_closes [] before e = by (has_element before) e
   where
@@ -165,7 +167,7 @@ end_closes [] before e = by (has_element before) e
     by false f = absurd (none-some {A = ℕ × LineRule} (length before, rule.NoElement) (sym f))
 
 -- a line more
-left_said : (spaces : List Space) (before lines : List (List ℕ)) (t : Tag) → said_fault spaces before (Some t) ≡ None
+left_said : (spaces : List Space) (before lines : List (List ℕ)) (t : Tag) → said_fault (left_open spaces before) (Some t) ≡ None
     → IsLeft (takes_attribute_behind (Some t)) (is_begin (Some t) || has_element before) (opened (length before) (Some t) (open_elements before)) lines
     → IsLeft (takes_attribute before) (has_element before) (open_elements before) (line_of t ∷ lines)
 left_said spaces before lines (tag.Begin name) e h =
@@ -175,19 +177,19 @@ left_said spaces before lines (tag.Attribute name value) e h =
     let kept = attribute-none spaces before name value e in
     attribute_left (takes_attribute before) (has_element before) (open_elements before) name value lines kept.placed kept.named h
 left_said spaces before lines (tag.Text t) e h =
-    let inside = (text-none before t e).inside in
+    let inside = (text-none spaces before t e).inside in
     with_none (takes_attribute before) (has_element before) (open_elements before) ((45 ∷ t) ∷ lines)
     (text_closes (has_element before) (open_elements before) t lines inside (at_once (has_element before) (open_elements before) lines h))
 left_said spaces before lines (tag.Comment t) e h =
     with_none (takes_attribute before) (has_element before) (open_elements before) ((67 ∷ t) ∷ lines)
     (comment_closes (has_element before) (open_elements before) t lines (at_once (has_element before) (open_elements before) lines h))
 left_said spaces before lines (tag.Finish name) e h =
-    let innermost = finish-none before name e in
+    let innermost = finish-none spaces before name e in
     with_none (takes_attribute before) (has_element before) (open_elements before) ((41 ∷ name) ∷ lines)
     (finish_closes (has_element before) (open_elements before) name lines innermost (open_begun before)
     (at_once (has_element before) (without_innermost (open_elements before)) lines h))
 
-left_behind : (spaces : List Space) (before lines : List (List ℕ)) (line : List ℕ) (t : Option Tag) → tag_of line ≡ t → said_fault spaces before t ≡ None
+left_behind : (spaces : List Space) (before lines : List (List ℕ)) (line : List ℕ) (t : Option Tag) → tag_of line ≡ t → said_fault (left_open spaces before) t ≡ None
     → IsLeft (takes_attribute_behind t) (is_begin t || has_element before) (opened (length before) t (open_elements before)) lines
     → IsLeft (takes_attribute before) (has_element before) (open_elements before) (line ∷ lines)
 left_behind spaces before lines line None said e h = absurd (none-some rule.BadLine (sym e))
@@ -197,8 +199,8 @@ left_behind spaces before lines line (Some t) said e h =
 is_left : (spaces : List Space) (before lines : List (List ℕ)) → fault_behind spaces before lines ≡ None → IsLeft (takes_attribute before) (has_element before) (open_elements before) lines
 is_left spaces before [] e = with_none (takes_attribute before) (has_element before) (open_elements before) [] (end_closes (open_elements before) before e)
 is_left spaces before (line ∷ lines) e =
-    let both = or_later-none (length before) (line_fault spaces before line) (fault_behind spaces (line ∷ before) lines) e in
-    let good = line_fault-none spaces before line both.0 in
+    let both = fault_behind-parts spaces before line lines e in
+    let good = line_fault-parts spaces before line both.0 in
     left_behind spaces before lines line (tag_of line) refl good.1 (is_left spaces (line ∷ before) lines both.1)
 
 -- so all the lines are a document's

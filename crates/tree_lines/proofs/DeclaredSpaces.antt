@@ -1,21 +1,22 @@
 -- What lines without a fault declare can be written again: each prefix once, and each with its URI.
-use Rattle.std.proofs.Common.{◌≡◌, ◌≢◌, ℕ, ◌<◌, Bool, true, false, List, [], ◌∷◌, ◌++◌, length, encode_utf8_all, bytes_eq, cond, eqb, Option, Some, None, refl, sym, ap, ◌∙◌, subst, true≢false, arith}
-use Rattle.std.specs.Prelude.{IsTrue, is_some, not, ◌&&◌, ◌||◌, if◌then◌else◌}
+use Rattle.std.proofs.Common.{◌≡◌, ◌≢◌, ℕ, Bool, true, false, List, [], ◌∷◌, ◌++◌, length, encode_utf8_all, bytes_eq, cond, eqb, Option, Some, None, refl, sym, ap, ◌∙◌, subst, true≢false, arith}
+use Rattle.std.specs.Prelude.{IsTrue, not, ◌&&◌, ◌||◌, if◌then◌else◌}
 use Rattle.std.specs.List.{AllByRecursion, list_any, list_all, flat_map, take_while}
 use Rattle.std.specs.Str.{chars, is_utf8}
-use Rattle.std.proofs.lemmas.Bool.{and_parts, and_from, or_parts, not-false, eqb-true}
+use Rattle.std.proofs.lemmas.Bool.{and_parts, and_from, or_parts, eqb-true}
 use Rattle.std.proofs.lemmas.Option.{none-some}
 use Rattle.std.proofs.lemmas.List.Sums.{take_while-cons}
 use Rattle.std.proofs.lemmas.Slice.Eq.{bytes_eq-Decides}
 use Rattle.serna_kinds.specs.Names.{Space, space}
 use Rattle.serna_kinds.specs.Qualified.{parted, prefix_of, local_of, is_local_name, is_name}
 use Rattle.tree_lines.specs.declared.rules.LineRule.TheVariants as rule
-use Rattle.tree_lines.specs.Texts.{is_allowed, is_line, has_escapes, meant}
+use Rattle.tree_lines.specs.Texts.{is_allowed, is_line, meant}
 use Rattle.tree_lines.specs.Tags.{Tag, tag_of, attribute_tag, xmlns, is_declaration, declared_prefix}
 use Rattle.tree_lines.specs.Tags as tag
 use Rattle.tree_lines.specs.Declarations.{begins_with, outermost_attributes, declared, declared_behind, declared_by}
-use Rattle.tree_lines.specs.Before.{takes_attribute, attributes_behind, attribute_names}
-use Rattle.tree_lines.specs.Faults.{first_broken, is_nothing, declares_already, declaration_fault, attribute_fault, said_fault, line_fault, fault_behind}
+use Rattle.tree_lines.specs.Before.{attributes_behind, attribute_names}
+use Rattle.tree_lines.specs.LeftOpen.{left_open}
+use Rattle.tree_lines.specs.Faults.{is_nothing, attribute_fault, said_fault, line_fault, fault_behind}
 use Rattle.tree_lines.specs.Writable.{is_writable, IsText, IsPrefix, AreSpaces}
 use Rattle.tree_lines.proofs.Parts.{Cut, at, past, cut_of, parted-at, parted-past, NameCase, plain, prefixed, name_case}
 use Rattle.tree_lines.proofs.Stored.{AllByRecursion-like}
@@ -76,7 +77,7 @@ others_behind name others one all = all.1
 
 -- an attribute in front of the declarations behind it
 declared_more : (spaces : List Space) (before : List (List ℕ)) (name value : List ℕ) (declares : Bool) → is_declaration name ≡ declares
-    → attribute_fault spaces before name value ≡ None → IsTrue (is_line name) → IsTrue (is_line value) → (rest : List Space)
+    → attribute_fault (left_open spaces before) name value ≡ None → IsTrue (is_line name) → IsTrue (is_line value) → (rest : List Space)
     → AreDeclared (name ∷ attribute_names before) rest
     → AreDeclared (attribute_names before) ((if declares then space (declared_prefix name) (encode_utf8_all (meant value)) ∷ [] else []) ++ rest)
 declared_more spaces before name value false e none allowed short rest after =
@@ -84,7 +85,7 @@ declared_more spaces before name value false e none allowed short rest after =
 declared_more spaces before name value true e none allowed short rest after =
     let others : List (List ℕ) = attribute_names before in
     let uri : List ℕ = encode_utf8_all (meant value) in
-    let kept = declaration_fault-parts before name value (declaration_fault-from spaces before name value e none) in
+    let kept = declaration_fault-parts spaces before name value (declaration_fault-from spaces before name value e none) in
     let text : IsText (meant value) = meant-text value short in (
       (
         prefix_declared name value e kept.0 allowed short kept.2,
@@ -100,17 +101,17 @@ declared_more spaces before name value true e none allowed short rest after =
     )
 
 -- and its line
-line_declared : (spaces : List Space) (before : List (List ℕ)) (bytes : List ℕ) → line_fault spaces before (65 ∷ bytes) ≡ None → (rest : List Space)
+line_declared : (spaces : List Space) (before : List (List ℕ)) (bytes : List ℕ) → line_fault (left_open spaces before) (65 ∷ bytes) ≡ None → (rest : List Space)
     → AreDeclared (attribute_names ((65 ∷ bytes) ∷ before)) rest → AreDeclared (attribute_names before) (declared_by (65 ∷ bytes) ++ rest)
 line_declared spaces before bytes none rest after = by (cut_of 32 bytes)
   where
-    parts : IsTrue (is_line (65 ∷ bytes)) × (said_fault spaces before (tag_of (65 ∷ bytes)) ≡ None)
+    parts : IsTrue (is_line (65 ∷ bytes)) × (said_fault (left_open spaces before) (tag_of (65 ∷ bytes)) ≡ None)
     parts = line_fault-parts spaces before (65 ∷ bytes) none
 
     by : Cut 32 bytes → AreDeclared (attribute_names before) (declared_by (65 ∷ bytes) ++ rest)
     by (past lacks) =
         let says : tag_of (65 ∷ bytes) ≡ None = rw (parted-past 32 bytes lacks, attribute_tag) refl in
-        absurd (none-some rule.BadLine (sym (subst (λ (x : Option Tag). said_fault spaces before x ≡ None) says parts.1)))
+        absurd (none-some rule.BadLine (sym (subst (λ (x : Option Tag). said_fault (left_open spaces before) x ≡ None) says parts.1)))
     by (at name value e lacks) =
         let cut : parted 32 bytes ≡ Some (name, value) = ap (parted 32) e ∙ parted-at 32 name value lacks in
         let says : tag_of (65 ∷ bytes) ≡ Some (tag.Attribute name value) = rw (cut, attribute_tag) refl in
@@ -120,7 +121,7 @@ line_declared spaces before bytes none rest after = by (cut_of 32 bytes)
         let allowed = is_line-parts name value 32 (omega arith) (subst (λ (x : List ℕ). IsTrue (is_line x)) e (is_line-parts [] bytes 65 (omega arith) parts.0).1) in
         subst (λ (x : List Space). AreDeclared (attribute_names before) (x ++ rest)) (sym declares)
         (declared_more spaces before name value (is_declaration name) refl
-        (subst (λ (x : Option Tag). said_fault spaces before x ≡ None) says parts.1) allowed.0 allowed.1 rest
+        (subst (λ (x : Option Tag). said_fault (left_open spaces before) x ≡ None) says parts.1) allowed.0 allowed.1 rest
         (subst (λ (x : Option Tag). AreDeclared (attributes_behind x (attribute_names before)) rest) says after))
 
 -- what attributes' lines declare, up to another line
@@ -132,17 +133,17 @@ attributes_declared spaces before (line ∷ lines) none =
     subst (λ (x : List (List ℕ)). AreDeclared (attribute_names before) (flat_map declared_by x)) (sym (take_while-cons (begins_with 65) line lines))
     (by line parts.0 (attributes_declared spaces (line ∷ before) lines parts.1))
   where
-    more : (bytes : List ℕ) (b : ℕ) (is : Bool) → eqb b 65 ≡ is → line_fault spaces before (b ∷ bytes) ≡ None
+    more : (bytes : List ℕ) (b : ℕ) (is : Bool) → eqb b 65 ≡ is → line_fault (left_open spaces before) (b ∷ bytes) ≡ None
         → AreDeclared (attribute_names ((b ∷ bytes) ∷ before)) (flat_map declared_by (take_while (begins_with 65) lines))
         → AreDeclared (attribute_names before) (flat_map declared_by (cond is ((b ∷ bytes) ∷ take_while (begins_with 65) lines) []))
     more bytes b true e none after =
         let same : b ≡ 65 = eqb-true b 65 e in
-        let done = line_declared spaces before bytes (subst (λ (c : ℕ). line_fault spaces before (c ∷ bytes) ≡ None) same none) (flat_map declared_by (take_while (begins_with 65) lines))
+        let done = line_declared spaces before bytes (subst (λ (c : ℕ). line_fault (left_open spaces before) (c ∷ bytes) ≡ None) same none) (flat_map declared_by (take_while (begins_with 65) lines))
         (subst (λ (c : ℕ). AreDeclared (attribute_names ((c ∷ bytes) ∷ before)) (flat_map declared_by (take_while (begins_with 65) lines))) same after) in
         subst (λ (c : ℕ). AreDeclared (attribute_names before) (flat_map declared_by ((c ∷ bytes) ∷ take_while (begins_with 65) lines))) (sym same) done
     more bytes b false e none after = (tt, tt)
 
-    by : (line : List ℕ) → line_fault spaces before line ≡ None
+    by : (line : List ℕ) → line_fault (left_open spaces before) line ≡ None
         → AreDeclared (attribute_names (line ∷ before)) (flat_map declared_by (take_while (begins_with 65) lines))
         → AreDeclared (attribute_names before) (flat_map declared_by (cond (begins_with 65 line) (line ∷ take_while (begins_with 65) lines) []))
     by [] none after = (tt, tt)

@@ -7,6 +7,7 @@ pub mod OneDocument
 pub mod Limits
 pub mod Faultless
 pub mod Parts
+pub mod SameNames
 pub mod Stored
 pub mod LineFacts
 pub mod PlainItems
@@ -30,7 +31,7 @@ pub mod Characters
 pub mod TagLemmas
 pub mod StepLemmas
 pub mod Declaring
-pub mod Behind
 pub mod Following
 pub mod Whole
 pub mod Documented
+pub mod Lineless

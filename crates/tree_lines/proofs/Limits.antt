@@ -1,9 +1,9 @@
 -- The tree of lines that break no rule is within the limits of a section.
-use Rattle.std.proofs.Common.{◌≡◌, ℕ, ◌+◌, ◌<◌, ◌≤◌, Bool, true, false, List, [], ◌∷◌, ◌++◌, zero, suc, map, Some, None, length, refl, sym, ap, subst, ◌∙◌, arith, length-append}
-use Rattle.std.specs.Prelude.{◌==◌, ◌&&◌, nat_lt, IsTrue, encode_utf8_all, if◌then◌else◌}
+use Rattle.std.proofs.Common.{◌≡◌, ℕ, ◌+◌, ◌<◌, ◌≤◌, Bool, true, false, List, [], ◌∷◌, ◌++◌, zero, suc, map, Some, None, length, drop, refl, sym, ap, subst, ◌∙◌, arith}
+use Rattle.std.specs.Prelude.{◌==◌, ◌&&◌, nat_lt, slice_index, IsTrue, if◌then◌else◌}
 use Rattle.std.specs.List.{AllByRecursion, flat_map}
 use Rattle.std.proofs.lemmas.Bool.{lt-ltb, and_left, and_right}
-use Rattle.std.proofs.lemmas.Str.{encodes-append, length-le-encodes}
+use Rattle.std.proofs.lemmas.Str.{length-le-encodes}
 use Rattle.std.proofs.Math.Dec.{eqb-suc-zero}
 use Rattle.serna_kinds.specs.declared.cells.NameId.{NameId}
 use Rattle.serna_kinds.specs.declared.cells.AttrPair.{AttrPair}
@@ -13,14 +13,17 @@ use Rattle.tree_lines.specs.Texts.{meant, size_of}
 use Rattle.tree_lines.specs.Tags.{Tag, tag_of, is_declaration}
 use Rattle.tree_lines.specs.Tags as tag
 use Rattle.tree_lines.specs.Before.{without_innermost, opened, open_elements, text_size, size_behind, begins_text, nodes_at, node_count}
-use Rattle.tree_lines.specs.Faults.{said_fault, line_fault, fault_behind}
+use Rattle.tree_lines.specs.LeftOpen.{left_open}
+use Rattle.tree_lines.specs.Faults.{said_fault, fault_behind}
 use Rattle.tree_lines.specs.Written.{Written, Attribute, attribute_bytes, written_lines}
 use Rattle.tree_lines.specs.Written as written
 use Rattle.tree_lines.specs.Documents.{AreParted, IsDocument}
 use Rattle.tree_lines.specs.Documents as documents
 use Rattle.tree_lines.specs.Given.{Given, end, text, comment, element, count_of, depth_of, IsShort, AreTexts, AreComments, IsTop, IsWhole, with_text, pair_for, pair_in, given_in, spaces_of, given_of}
-use Rattle.tree_lines.proofs.LineTags.{tag_of-attribute}
-use Rattle.tree_lines.proofs.RulesKept.{or_later-none, line_fault-none, begin-none, attribute-none, text-none, comment-none}
+use Rattle.tree_lines.proofs.Parts.{tag_of-attribute}
+use Rattle.tree_lines.proofs.Characters.{size_of-append}
+use Rattle.tree_lines.proofs.LineFacts.{fault_behind-parts, line_fault-parts}
+use Rattle.tree_lines.proofs.RulesKept.{begin-none, attribute-none, text-none, comment-none}
 
 -- further lines, the nearest first
 abbrev past : List (List ℕ) → List (List ℕ) → List (List ℕ)
@@ -34,13 +37,13 @@ past-append (x ∷ xs) ys before = past-append xs ys (x ∷ before)
 -- none of the lines breaks a rule
 abbrev AreFaultless : List Space → List (List ℕ) → List (List ℕ) → Type 0
 AreFaultless spaces before [] = Unit {0}
-AreFaultless spaces before (line ∷ lines) = (said_fault spaces before (tag_of line) ≡ None) × AreFaultless spaces (line ∷ before) lines
+AreFaultless spaces before (line ∷ lines) = (said_fault (left_open spaces before) (tag_of line) ≡ None) × AreFaultless spaces (line ∷ before) lines
 
 are_faultless : (spaces : List Space) (before lines : List (List ℕ)) → fault_behind spaces before lines ≡ None → AreFaultless spaces before lines
 are_faultless spaces before [] e = tt
 are_faultless spaces before (line ∷ lines) e =
-    let both = or_later-none (length before) (line_fault spaces before line) (fault_behind spaces (line ∷ before) lines) e in
-    ((line_fault-none spaces before line both.0).1, are_faultless spaces (line ∷ before) lines both.1)
+    let both = fault_behind-parts spaces before line lines e in
+    ((line_fault-parts spaces before line both.0).1, are_faultless spaces (line ∷ before) lines both.1)
 
 faultless_parts : (spaces : List Space) (before xs ys : List (List ℕ)) → AreFaultless spaces before (xs ++ ys) → AreFaultless spaces before xs × AreFaultless spaces (past xs before) ys
 faultless_parts spaces before [] ys h = (tt, h)
@@ -53,13 +56,13 @@ abbrev front_count : Given → ℕ
 front_count end = 0
 front_count (text t rest) = 1
 front_count (comment t rest) = 0
-front_count (element name attributes content rest) = 0
+front_count (element name attributes line content rest) = 0
 
 abbrev front_size : Given → ℕ
 front_size end = 0
 front_size (text t rest) = size_of t
 front_size (comment t rest) = 0
-front_size (element name attributes content rest) = 0
+front_size (element name attributes line content rest) = 0
 
 -- how many texts of the tree go on with a text of so many bytes
 abbrev joins : ℕ → Given → ℕ
@@ -74,9 +77,6 @@ joins-some : (size : ℕ) (g : Given) → 0 < size → joins size g ≡ front_co
 joins-some zero g h = absurd (omega arith)
 joins-some (suc size) g h = refl
 
-size_of-append : (a b : List ℕ) → size_of (a ++ b) ≡ size_of a + size_of b
-size_of-append a b = ap length (encodes-append a b) ∙ length-append (encode_utf8_all a) (encode_utf8_all b)
-
 size_of-some : (c : ℕ) (cs : List ℕ) → 0 < size_of (c ∷ cs)
 size_of-some c cs = let longer : suc (length cs) ≤ size_of (c ∷ cs) = length-le-encodes (c ∷ cs) in omega arith
 
@@ -86,14 +86,14 @@ depth_of-with_text [] g = refl
 depth_of-with_text (c ∷ cs) end = refl
 depth_of-with_text (c ∷ cs) (text t rest) = refl
 depth_of-with_text (c ∷ cs) (comment t rest) = refl
-depth_of-with_text (c ∷ cs) (element name attributes content rest) = refl
+depth_of-with_text (c ∷ cs) (element name attributes line content rest) = refl
 
 front_size-with_text : (t : List ℕ) (g : Given) → front_size (with_text t g) ≡ size_of t + front_size g
 front_size-with_text [] g = omega arith
 front_size-with_text (c ∷ cs) end = omega arith
 front_size-with_text (c ∷ cs) (text t rest) = size_of-append (c ∷ cs) t
 front_size-with_text (c ∷ cs) (comment t rest) = omega arith
-front_size-with_text (c ∷ cs) (element name attributes content rest) = omega arith
+front_size-with_text (c ∷ cs) (element name attributes line content rest) = omega arith
 
 texts-with_text : (t : List ℕ) (g : Given) → AreTexts g → size_of t + front_size g ≤ 16384 → AreTexts (with_text t g)
 texts-with_text [] g h short = h
@@ -101,19 +101,19 @@ texts-with_text (c ∷ cs) end h short = (λ (e : c ∷ cs ≡ []). absurd (cc),
 texts-with_text (c ∷ cs) (text t rest) h short =
     (λ (e : c ∷ (cs ++ t) ≡ []). absurd (cc), omega (arith, size_of-append (c ∷ cs) t), h.2, h.3)
 texts-with_text (c ∷ cs) (comment t rest) h short = (λ (e : c ∷ cs ≡ []). absurd (cc), omega arith, tt, h)
-texts-with_text (c ∷ cs) (element name attributes content rest) h short = (λ (e : c ∷ cs ≡ []). absurd (cc), omega arith, tt, h)
+texts-with_text (c ∷ cs) (element name attributes line content rest) h short = (λ (e : c ∷ cs ≡ []). absurd (cc), omega arith, tt, h)
 
 front_count-with_text : (c : ℕ) (cs : List ℕ) (g : Given) → front_count (with_text (c ∷ cs) g) ≡ 1
 front_count-with_text c cs end = refl
 front_count-with_text c cs (text t rest) = refl
 front_count-with_text c cs (comment t rest) = refl
-front_count-with_text c cs (element name attributes content rest) = refl
+front_count-with_text c cs (element name attributes line content rest) = refl
 
 count_of-with_text : (c : ℕ) (cs : List ℕ) (g : Given) → count_of (with_text (c ∷ cs) g) + front_count g ≡ count_of g + 1
 count_of-with_text c cs end = refl
 count_of-with_text c cs (text t rest) = omega arith
 count_of-with_text c cs (comment t rest) = omega arith
-count_of-with_text c cs (element name attributes content rest) = omega arith
+count_of-with_text c cs (element name attributes line content rest) = omega arith
 
 abbrev one_if : Bool → ℕ
 one_if begins = if begins then 1 else 0
@@ -163,7 +163,7 @@ has_attributes names spaces [] before named h none = record { opens = refl; node
 has_attributes names spaces (x ∷ xs) before named h none =
     let said = tag_of-attribute x.name x.value named.0 in
     let line : List ℕ = attribute_bytes x in
-    let faultless : said_fault spaces before (Some (tag.Attribute x.name x.value)) ≡ None = ap (said_fault spaces before) (sym said) ∙ h.0 in
+    let faultless : said_fault (left_open spaces before) (Some (tag.Attribute x.name x.value)) ≡ None = ap (said_fault (left_open spaces before)) (sym said) ∙ h.0 in
     let nothing : text_size (line ∷ before) ≡ 0 = ap (λ t. size_behind t (text_size before)) said in
     let opens : open_elements (line ∷ before) ≡ open_elements before = ap (λ t. opened (length before) t (open_elements before)) said in
     let nodes : node_count (line ∷ before) ≡ node_count before + 0 = ap (λ t. node_count before + nodes_at t (text_size before)) said in
@@ -188,12 +188,12 @@ record IsWithin (g : Given) (before after : List (List ℕ)) : Type 0 where
 ended_opens : (name : List ℕ) (before named filled : List (List ℕ)) → open_elements named ≡ open_elements ((40 ∷ name) ∷ before) → open_elements filled ≡ open_elements named → open_elements ((41 ∷ name) ∷ filled) ≡ open_elements before
 ended_opens name before named filled begun same = ap without_innermost (same ∙ begun)
 
-element_within : (id : NameId) (pairs : List AttrPair) (content rest : Given) (name : List ℕ) (before named filled after : List (List ℕ)) → text_size before ≤ 16384
-    → HasAttributes pairs ((40 ∷ name) ∷ before) named → IsWithin content named filled → IsWithin rest ((41 ∷ name) ∷ filled) after → IsWithin (element id pairs content rest) before after
-element_within id pairs content rest name before named filled after short attributes inside behind =
+element_within : (id : NameId) (pairs : List AttrPair) (number : ℕ) (content rest : Given) (name : List ℕ) (before named filled after : List (List ℕ)) → text_size before ≤ 16384
+    → HasAttributes pairs ((40 ∷ name) ∷ before) named → IsWithin content named filled → IsWithin rest ((41 ∷ name) ∷ filled) after → IsWithin (element id pairs number content rest) before after
+element_within id pairs number content rest name before named filled after short attributes inside behind =
     let outside = ended_opens name before named filled attributes.opens inside.opens in
     let start : joins (text_size named) content ≡ 0 = ap (λ n. joins n content) attributes.size in
-    let none = joins-none (text_size before) (element id pairs content rest) refl in
+    let none = joins-none (text_size before) (element id pairs number content rest) refl in
     record {
       opens = behind.opens ∙ outside;
       counted = omega (arith, attributes.nodes, inside.counted, behind.counted);
@@ -203,15 +203,15 @@ element_within id pairs content rest name before named filled after short attrib
       front = omega arith;
     }
 
-is_within : (names : List NameParts) (spaces : List Space) (w : Written) (before : List (List ℕ)) → AreParted w → AreFaultless spaces before (written_lines w)
-    → length (open_elements before) ≤ 120 → node_count before ≤ 1000000 → text_size before ≤ 16384 → IsWithin (given_in names spaces w) before (past (written_lines w) before)
-is_within names spaces written.end before p h deep few short =
+is_within : (names : List NameParts) (spaces : List Space) (numbers : List ℕ) (w : Written) (before : List (List ℕ)) → AreParted w → AreFaultless spaces before (written_lines w)
+    → length (open_elements before) ≤ 120 → node_count before ≤ 1000000 → text_size before ≤ 16384 → IsWithin (given_in names spaces numbers w) before (past (written_lines w) before)
+is_within names spaces numbers written.end before p h deep few short =
     record { opens = refl; counted = omega (arith, joins-none (text_size before) end refl); few = few; shallow = omega arith; texts = tt; front = omega arith }
-is_within names spaces (written.text t w) before p h deep few short =
-    let kept = text-none before t h.0 in
+is_within names spaces numbers (written.text t w) before p h deep few short =
+    let kept = text-none spaces before t h.0 in
     let line : List ℕ = 45 ∷ t in
-    let g = given_in names spaces w in
-    let more = is_within names spaces w (line ∷ before) p h.1 deep (few_more (begins_text (text_size before) t) (node_count before) few kept.few) kept.short in
+    let g = given_in names spaces (drop 1 numbers) w in
+    let more = is_within names spaces (drop 1 numbers) w (line ∷ before) p h.1 deep (few_more (begins_text (text_size before) t) (node_count before) few kept.few) kept.short in
     record {
       opens = more.opens;
       counted = counted_text (meant t) g (text_size before) (node_count before) (node_count (past (written_lines w) (line ∷ before))) more.counted;
@@ -220,11 +220,11 @@ is_within names spaces (written.text t w) before p h deep few short =
       texts = texts-with_text (meant t) g more.texts (omega (arith, more.front));
       front = omega (arith, more.front, front_size-with_text (meant t) g);
     }
-is_within names spaces (written.comment t w) before p h deep few short =
-    let room = comment-none before t h.0 in
+is_within names spaces numbers (written.comment t w) before p h deep few short =
+    let room = comment-none spaces before t h.0 in
     let line : List ℕ = 67 ∷ t in
-    let g = given_in names spaces w in
-    let more = is_within names spaces w (line ∷ before) p h.1 deep (omega arith) (omega arith) in
+    let g = given_in names spaces (drop 1 numbers) w in
+    let more = is_within names spaces (drop 1 numbers) w (line ∷ before) p h.1 deep (omega arith) (omega arith) in
     record {
       opens = more.opens;
       counted = omega (arith, more.counted, joins-none (text_size before) (comment (meant t) g) refl);
@@ -233,7 +233,7 @@ is_within names spaces (written.comment t w) before p h deep few short =
       texts = more.texts;
       front = omega arith;
     }
-is_within names spaces (written.element name xs content w) before p h deep few short =
+is_within names spaces numbers (written.element name xs content w) before p h deep few short =
     let kept = begin-none spaces before name h.0 in
     let begun = (40 ∷ name) ∷ before in
     let named = past (map attribute_bytes xs) begun in
@@ -243,35 +243,37 @@ is_within names spaces (written.element name xs content w) before p h deep few s
     let two = faultless_parts spaces named (written_lines content) ((41 ∷ name) ∷ written_lines w) one.1 in
     let attributes = has_attributes names spaces xs begun p.0 one.0 refl in
     let size = ap length attributes.opens in
-    let inside = is_within names spaces content named p.1 two.0 (omega (arith, size, kept.shallow)) (omega (arith, attributes.nodes, kept.few)) (omega (arith, attributes.size)) in
+    let inner = drop (1 + length xs) numbers in
+    let outer = drop (1 + length (written_lines content)) inner in
+    let inside = is_within names spaces inner content named p.1 two.0 (omega (arith, size, kept.shallow)) (omega (arith, attributes.nodes, kept.few)) (omega (arith, attributes.size)) in
     let outside = ended_opens name before named filled attributes.opens inside.opens in
-    let behind = is_within names spaces w ended p.2 two.1.1 (omega (arith, ap length outside)) (omega (arith, inside.few)) (omega arith) in
+    let behind = is_within names spaces outer w ended p.2 two.1.1 (omega (arith, ap length outside)) (omega (arith, inside.few)) (omega arith) in
     let lines : past (map attribute_bytes xs ++ (written_lines content ++ (41 ∷ name) ∷ written_lines w)) begun ≡ past (written_lines w) ended =
     past-append (map attribute_bytes xs) (written_lines content ++ (41 ∷ name) ∷ written_lines w) begun ∙ past-append (written_lines content) ((41 ∷ name) ∷ written_lines w) named in
     let id = id_of names (element_name spaces name) in
     let pairs = flat_map (pair_in names spaces) xs in
-    subst (IsWithin (element id pairs (given_in names spaces content) (given_in names spaces w)) before) (sym lines)
-    (element_within id pairs (given_in names spaces content) (given_in names spaces w) name before named filled (past (written_lines w) ended) short attributes inside behind)
+    subst (IsWithin (element id pairs (slice_index numbers 0) (given_in names spaces inner content) (given_in names spaces outer w)) before) (sym lines)
+    (element_within id pairs (slice_index numbers 0) (given_in names spaces inner content) (given_in names spaces outer w) name before named filled (past (written_lines w) ended) short attributes inside behind)
 
 -- the outermost element with comments beside it
-comments_given : (names : List NameParts) (spaces : List Space) (w : Written) → documents.AreComments w → AreComments (given_in names spaces w)
-comments_given names spaces written.end h = tt
-comments_given names spaces (written.text t w) h = absurd h
-comments_given names spaces (written.comment t w) h = comments_given names spaces w h
-comments_given names spaces (written.element name xs content w) h = absurd h
+comments_given : (names : List NameParts) (spaces : List Space) (numbers : List ℕ) (w : Written) → documents.AreComments w → AreComments (given_in names spaces numbers w)
+comments_given names spaces numbers written.end h = tt
+comments_given names spaces numbers (written.text t w) h = absurd h
+comments_given names spaces numbers (written.comment t w) h = comments_given names spaces (drop 1 numbers) w h
+comments_given names spaces numbers (written.element name xs content w) h = absurd h
 
-top_given : (names : List NameParts) (spaces : List Space) (w : Written) → documents.IsTop w → IsTop (given_in names spaces w)
-top_given names spaces written.end h = absurd h
-top_given names spaces (written.text t w) h = absurd h
-top_given names spaces (written.comment t w) h = top_given names spaces w h
-top_given names spaces (written.element name xs content w) h = comments_given names spaces w h
+top_given : (names : List NameParts) (spaces : List Space) (numbers : List ℕ) (w : Written) → documents.IsTop w → IsTop (given_in names spaces numbers w)
+top_given names spaces numbers written.end h = absurd h
+top_given names spaces numbers (written.text t w) h = absurd h
+top_given names spaces numbers (written.comment t w) h = top_given names spaces (drop 1 numbers) w h
+top_given names spaces numbers (written.element name xs content w) h = comments_given names spaces (drop (1 + length (written_lines content)) (drop (1 + length xs) numbers)) w h
 
-pub document_whole : (names : List NameParts) (document : Written) → IsDocument document → IsWhole (given_of names document)
-document_whole names document d =
+pub document_whole : (names : List NameParts) (numbers : List ℕ) (document : Written) → IsDocument document → IsWhole (given_of names numbers document)
+document_whole names numbers document d =
     let spaces = spaces_of document in
-    let all = is_within names spaces document [] d.parted (are_faultless spaces [] (written_lines document) d.faultless) (omega arith) (omega arith) (omega arith) in
+    let all = is_within names spaces numbers document [] d.parted (are_faultless spaces [] (written_lines document) d.faultless) (omega arith) (omega arith) (omega arith) in
     record {
-      top = top_given names spaces document d.top;
+      top = top_given names spaces numbers document d.top;
       texts = all.texts;
       few = omega (arith, all.counted, all.few);
       shallow = omega (arith, all.shallow);

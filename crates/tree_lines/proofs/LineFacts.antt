@@ -13,19 +13,22 @@ use Rattle.tree_lines.specs.declared.rules.LineRule.TheVariants as rule
 use Rattle.tree_lines.specs.Texts.{is_line}
 use Rattle.tree_lines.specs.Tags.{tag_of, is_declaration, declared_prefix}
 use Rattle.tree_lines.specs.Before.{open_elements}
-use Rattle.tree_lines.specs.Faults.{first_broken, is_nothing, has_already, declares_already, begin_fault, declaration_fault, inner_declaration_fault, pair_fault, attribute_fault, said_fault, line_fault, or_later, fault_behind, fault_of, first_fault, bytes_of, number_at}
+use Rattle.tree_lines.specs.LeftOpen.{has_already, declares_already, left_open}
+use Rattle.tree_lines.specs.Faults.{first_broken, is_nothing, begin_fault, declaration_fault, inner_declaration_fault, pair_fault, attribute_fault, said_fault, line_fault, or_later, fault_behind, fault_of, first_fault, bytes_of, number_at}
 
--- where no rule is broken, each is kept
-abbrev AreKept : List (Bool × LineRule) → Type 0
+-- where no rule is broken, the first one is kept, and so is each
+pub first-kept : (broken : Bool) (at : LineRule) (more : List (Bool × LineRule)) → first_broken ((broken, at) ∷ more) ≡ None → (broken ≡ false) × (first_broken more ≡ None)
+first-kept true at more none = absurd (none-some at (sym none))
+first-kept false at more none = (refl, none)
+
+abbrev pub AreKept : List (Bool × LineRule) → Type 0
 AreKept rules = AllByRecursion (λ (x : Bool × LineRule). x.0 ≡ false) rules
 
-first_broken-kept : (rules : List (Bool × LineRule)) → first_broken rules ≡ None → AreKept rules
+pub first_broken-kept : (rules : List (Bool × LineRule)) → first_broken rules ≡ None → AreKept rules
 first_broken-kept [] none = tt
-first_broken-kept (x ∷ xs) none = by x.0 (first_broken-kept xs) none
-  where
-    by : (broken : Bool) → (first_broken xs ≡ None → AreKept xs) → (if broken then Some x.1 else first_broken xs) ≡ None → (broken ≡ false) × AreKept xs
-    by true rest none = absurd (none-some x.1 (sym none))
-    by false rest none = (refl, rest none)
+first_broken-kept (x ∷ xs) none =
+    let both = first-kept x.0 x.1 xs none in
+    (both.0, first_broken-kept xs both.1)
 
 -- the rules of a line that begins an element, and those of them that its name keeps
 abbrev begin_rules : Bool → Bool → Bool → Bool → Bool → List (Bool × LineRule)
@@ -34,7 +37,7 @@ begin_rules a b c d e = (a, rule.BadName) ∷ (b, rule.TwoRoots) ∷ (c, rule.To
 begin_kept : (a b c d e : Bool) → first_broken (begin_rules a b c d e) ≡ None → (a ≡ false) × (e ≡ false)
 begin_kept a b c d e none = let kept = first_broken-kept (begin_rules a b c d e) none in (kept.0, kept.1.1.1.1.0)
 
-pub begin_fault-parts : (spaces : List Space) (before : List (List ℕ)) (name : List ℕ) → begin_fault spaces before name ≡ None
+pub begin_fault-parts : (spaces : List Space) (before : List (List ℕ)) (name : List ℕ) → begin_fault (left_open spaces before) name ≡ None
     → IsTrue (is_name name) × IsTrue (is_some (element_uri spaces (prefix_of name)))
 begin_fault-parts spaces before name none =
     let kept = begin_kept _ _ _ _ _ none in
@@ -48,7 +51,7 @@ pair_rules a b c d e f =
 pair_kept : (a b c d e f : Bool) → first_broken (pair_rules a b c d e f) ≡ None → (d ≡ false) × (f ≡ false)
 pair_kept a b c d e f none = let kept = first_broken-kept (pair_rules a b c d e f) none in (kept.1.1.1.0, kept.1.1.1.1.1.0)
 
-pub pair_fault-parts : (spaces : List Space) (before : List (List ℕ)) (name value : List ℕ) → pair_fault spaces before name value ≡ None
+pub pair_fault-parts : (spaces : List Space) (before : List (List ℕ)) (name value : List ℕ) → pair_fault (left_open spaces before) name value ≡ None
     → (has_already spaces before name ≡ false) × IsTrue (is_some (attribute_uri spaces (prefix_of name)))
 pair_fault-parts spaces before name value none =
     let kept = pair_kept _ _ _ _ _ _ none in
@@ -61,16 +64,16 @@ declaration_rules a b c d e = (a, rule.BadLine) ∷ (b, rule.BadName) ∷ (c, ru
 declaration_kept : (a b c d e : Bool) → first_broken (declaration_rules a b c d e) ≡ None → (b ≡ false) × (d ≡ false) × (e ≡ false)
 declaration_kept a b c d e none = let kept = first_broken-kept (declaration_rules a b c d e) none in (kept.1.0, kept.1.1.1.0, kept.1.1.1.1.0)
 
-pub declaration_fault-parts : (before : List (List ℕ)) (name value : List ℕ) → declaration_fault before name value ≡ None
+pub declaration_fault-parts : (spaces : List Space) (before : List (List ℕ)) (name value : List ℕ) → declaration_fault (left_open spaces before) name value ≡ None
     → IsTrue (is_name name) × (declares_already before name ≡ false) × ((not (is_nothing (declared_prefix name)) && is_nothing value) ≡ false)
-declaration_fault-parts before name value none =
+declaration_fault-parts spaces before name value none =
     let kept = declaration_kept _ _ _ _ _ none in
     (not-false (is_name name) kept.0, kept.1, kept.2)
 
 -- the first of the lines has no fault, and neither have the others
 pub fault_behind-parts : (spaces : List Space) (before : List (List ℕ)) (line : List ℕ) (lines : List (List ℕ)) → fault_behind spaces before (line ∷ lines) ≡ None
-    → (line_fault spaces before line ≡ None) × (fault_behind spaces (line ∷ before) lines ≡ None)
-fault_behind-parts spaces before line lines none = by (line_fault spaces before line) none
+    → (line_fault (left_open spaces before) line ≡ None) × (fault_behind spaces (line ∷ before) lines ≡ None)
+fault_behind-parts spaces before line lines none = by (line_fault (left_open spaces before) line) none
   where
     by : (first : Option LineRule) → or_later (length before) first (fault_behind spaces (line ∷ before) lines) ≡ None
         → (first ≡ None) × (fault_behind spaces (line ∷ before) lines ≡ None)
@@ -78,29 +81,29 @@ fault_behind-parts spaces before line lines none = by (line_fault spaces before 
     by (Some broken) none = absurd (none-some (length before, broken) (sym none))
 
 -- its characters are allowed, and it says something
-pub line_fault-parts : (spaces : List Space) (before : List (List ℕ)) (line : List ℕ) → line_fault spaces before line ≡ None
-    → IsTrue (is_line line) × (said_fault spaces before (tag_of line) ≡ None)
+pub line_fault-parts : (spaces : List Space) (before : List (List ℕ)) (line : List ℕ) → line_fault (left_open spaces before) line ≡ None
+    → IsTrue (is_line line) × (said_fault (left_open spaces before) (tag_of line) ≡ None)
 line_fault-parts spaces before line none = by (is_line line) none
   where
-    by : (good : Bool) → (if good then said_fault spaces before (tag_of line) else Some rule.BadLine) ≡ None → IsTrue good × (said_fault spaces before (tag_of line) ≡ None)
+    by : (good : Bool) → (if good then said_fault (left_open spaces before) (tag_of line) else Some rule.BadLine) ≡ None → IsTrue good × (said_fault (left_open spaces before) (tag_of line) ≡ None)
     by true none = (refl, none)
     by false none = absurd (none-some rule.BadLine (sym none))
 
 -- an attribute that declares no namespace
 pub pair_fault-from : (spaces : List Space) (before : List (List ℕ)) (name value : List ℕ) → is_declaration name ≡ false
-    → attribute_fault spaces before name value ≡ None → pair_fault spaces before name value ≡ None
+    → attribute_fault (left_open spaces before) name value ≡ None → pair_fault (left_open spaces before) name value ≡ None
 pair_fault-from spaces before name value pair none = rw pair at none
 
 -- one that does stands on the outermost element
 pub declaration_fault-from : (spaces : List Space) (before : List (List ℕ)) (name value : List ℕ) → is_declaration name ≡ true
-    → attribute_fault spaces before name value ≡ None → declaration_fault before name value ≡ None
+    → attribute_fault (left_open spaces before) name value ≡ None → declaration_fault (left_open spaces before) name value ≡ None
 declaration_fault-from spaces before name value declares none = by (length (open_elements before) == 1) (rw declares at none)
   where
     inner : (a b c : Bool) → first_broken ((a, rule.BadLine) ∷ (b, rule.BadName) ∷ (c, rule.BadEscape) ∷ (true, rule.InnerNamespace) ∷ []) ≡ None → ⊥
     inner a b c none =
         true≢false (first_broken-kept ((a, rule.BadLine) ∷ (b, rule.BadName) ∷ (c, rule.BadEscape) ∷ (true, rule.InnerNamespace) ∷ []) none).1.1.1.0
 
-    by : (outermost : Bool) → (if outermost then declaration_fault before name value else inner_declaration_fault before name value) ≡ None → declaration_fault before name value ≡ None
+    by : (outermost : Bool) → (if outermost then declaration_fault (left_open spaces before) name value else inner_declaration_fault (left_open spaces before) name value) ≡ None → declaration_fault (left_open spaces before) name value ≡ None
     by true none = none
     by false none = absurd (inner _ _ _ none)
 

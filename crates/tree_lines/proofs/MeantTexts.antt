@@ -1,10 +1,10 @@
 -- What a line's texts mean can be written again.
-use Rattle.std.proofs.Common.{◌≡◌, ℕ, ◌+◌, ◌<◌, ◌≤◌, Bool, true, false, List, [], ◌∷◌, ◌++◌, length, take, drop, encode_utf8_all, eqb, get_or, refl, sym, ap, ◌∙◌, arith, subst, take_at, drop_at, length-append, append_assoc}
-use Rattle.std.specs.Prelude.{IsTrue, ◌==◌, ◌&&◌, ◌||◌, nat_le, not, if◌then◌else◌}
+use Rattle.std.proofs.Common.{◌≡◌, ℕ, ◌+◌, ◌<◌, Bool, true, false, List, [], ◌∷◌, ◌++◌, length, drop, encode_utf8_all, get_or, refl, sym, ap, ◌∙◌, arith, subst, take_at, drop_at, length-append, append_assoc}
+use Rattle.std.specs.Prelude.{IsTrue, ◌==◌, ◌&&◌, if◌then◌else◌}
 use Rattle.std.specs.List.{AllByRecursion, list_all}
-use Rattle.std.specs.Str.{chars, is_utf8, IsUtf8, IsCharBoundary}
+use Rattle.std.specs.Str.{chars, is_utf8, IsUtf8}
 use Rattle.std.proofs.Math.Utf8.{scalar, scalars}
-use Rattle.std.proofs.lemmas.Bool.{and_parts, and_from, or_left, cases_Bool}
+use Rattle.std.proofs.lemmas.Bool.{and_parts, and_from}
 use Rattle.std.proofs.lemmas.List.{get_or_at}
 use Rattle.std.proofs.lemmas.List.Folds.{list_all-append}
 use Rattle.std.proofs.lemmas.Str.{IsUtf8-from_is_utf8, is_utf8-from_IsUtf8, IsUtf8-take, IsUtf8-drop, IsUtf8-append, IsUtf8-from_ascii, IsCharBoundary-before_ascii, IsCharBoundary-after_ascii, chars-append, chars-IsAscii, chars-encodes, scalars-chars, encodes-append, encodes-chars, length-le-encodes}

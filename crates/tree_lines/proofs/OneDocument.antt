@@ -7,14 +7,14 @@ use Rattle.std.proofs.lemmas.Option.{same_Some}
 use Rattle.serna_kinds.specs.Qualified.{parted, is_name}
 use Rattle.tree_lines.specs.Written.{Written, Attribute, attribute_bytes, written_lines, end, text, comment, element}
 use Rattle.tree_lines.specs.Documents.{AreParted, IsDocument}
-use Rattle.tree_lines.proofs.LineTags.{name-spaceless, parted-at_space}
+use Rattle.tree_lines.proofs.Parts.{parted-name}
 use Rattle.tree_lines.proofs.Closing.{regroup}
 
 -- an attribute's name ends at the first space
 attribute_apart : (x y : Attribute) → IsTrue (is_name x.name) → IsTrue (is_name y.name) → x.name ++ 32 ∷ x.value ≡ y.name ++ 32 ∷ y.value → x ≡ y
 attribute_apart x y named other e =
     let both : Some (x.name, x.value) ≡ Some (y.name, y.value) =
-    sym (parted-at_space x.name x.value (name-spaceless x.name named)) ∙ ap (parted 32) e ∙ parted-at_space y.name y.value (name-spaceless y.name other) in
+    sym (parted-name x.name x.value named) ∙ ap (parted 32) e ∙ parted-name y.name y.value other in
     let attribute : List ℕ × List ℕ → Attribute = λ p. record { name = p.0; value = p.1 } in
     ap attribute (same_Some (x.name, x.value) (y.name, y.value) both)
 

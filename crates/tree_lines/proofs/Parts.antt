@@ -1,8 +1,10 @@
 -- Texts cut at a mark, and the bytes that a written name lacks.
-use Rattle.std.proofs.Common.{◌≡◌, ℕ, ◌+◌, Bool, true, false, List, [], ◌∷◌, ◌++◌, length, take, drop, eqb, ltb, Some, None, refl, sym, ap, ◌∙◌, arith, take_at, drop_at, append_assoc, length-append, true≢false, subst}
+use Rattle.std.proofs.Common.{◌≡◌, ℕ, ◌+◌, Bool, true, false, List, [], ◌∷◌, ◌++◌, length, take, drop, eqb, ltb, Option, Some, None, refl, sym, ap, ◌∙◌, arith, take_at, drop_at, append_assoc, length-append, true≢false, subst}
 use Rattle.std.specs.Prelude.{IsTrue, ◌==◌}
 use Rattle.std.specs.List.{AllByRecursion, list_all, position_or_len}
 use Rattle.std.proofs.lemmas.Bool.{eq-eqb, eqb-true, lt-ltb, le-ltb, and_parts, false_from_ne_true}
+use Rattle.tree_lines.specs.Tags.{tag_of}
+use Rattle.tree_lines.specs.Tags as tag
 use Rattle.serna_kinds.specs.Qualified.{parted, begins_name, continues_name, is_local_name, is_name, prefix_of, local_of}
 
 -- none of the bytes is the mark
@@ -93,3 +95,11 @@ name-lacks mark name never other good = by (name_case name good)
     by (plain local front behind) = local-lacks mark name never local
     by (prefixed prefix local e first second front behind) =
         subst (Lacks mark) (sym e) (Lacks-append mark prefix (58 ∷ local) (local-lacks mark prefix never first) (other, local-lacks mark local never second))
+
+-- a name and a value stand on both sides of the first space
+pub parted-name : (name value : List ℕ) → IsTrue (is_name name) → parted 32 (name ++ 32 ∷ value) ≡ Some (name, value)
+parted-name name value good = parted-at 32 name value (name-lacks 32 name refl refl good)
+
+pub tag_of-attribute : (name value : List ℕ) → IsTrue (is_name name) → tag_of (65 ∷ (name ++ 32 ∷ value)) ≡ Some (tag.Attribute name value)
+tag_of-attribute name value good =
+    ap (λ (o : Option (List ℕ × List ℕ)). elim o [ None ↦ None | Some p ↦ Some (tag.Attribute p.0 p.1) ]) (parted-name name value good)

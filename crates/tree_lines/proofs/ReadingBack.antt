@@ -1,25 +1,21 @@
 -- What is written of a tree is a document that declares the same, and the document's tree is that tree.
-use Rattle.std.proofs.Common.{◌≡◌, ◌≢◌, ℕ, Bool, true, false, List, [], ◌∷◌, Option, Some, None, length, eqb, refl, sym, ap, ◌∙◌, arith}
-use Rattle.std.specs.Prelude.{if◌then◌else◌}
+use Rattle.std.proofs.Common.{◌≡◌, ◌≢◌, ℕ, true, false, List, [], ◌∷◌, None, eqb, sym, ap, ◌∙◌, arith}
 use Rattle.std.specs.List.{All, list_all}
 use Rattle.std.specs.Str.{chars, is_utf8, NonePass}
 use Rattle.std.proofs.lemmas.Bool.{and_parts, ne_eqb, false≢true}
 use Rattle.std.proofs.lemmas.List.{get_or_default}
 use Rattle.std.proofs.lemmas.List.Elements.{All-nil, All-cons}
-use Rattle.std.proofs.lemmas.Option.{none-some}
 use Rattle.std.proofs.lemmas.Str.{encodes-chars, IsUtf8-from_is_utf8}
 use Rattle.std.proofs.lemmas.Str.Pattern.{NoCharPasses-char}
 use Rattle.serna_kinds.specs.Names.{NameParts, Space, AreDistinct}
-use Rattle.tree_lines.specs.declared.rules.LineRule.{LineRule}
-use Rattle.tree_lines.specs.declared.rules.LineRule.TheVariants as rule
 use Rattle.tree_lines.specs.Texts.{is_allowed, is_line}
-use Rattle.tree_lines.specs.Tags.{tag_of}
 use Rattle.tree_lines.specs.Written.{Written, written_lines}
 use Rattle.tree_lines.specs.Declarations.{spaces_in}
-use Rattle.tree_lines.specs.Faults.{said_fault, line_fault, or_later, fault_behind, fault_of}
-use Rattle.tree_lines.specs.Given.{Given, given_in}
+use Rattle.tree_lines.specs.Faults.{fault_behind, fault_of}
+use Rattle.tree_lines.specs.Given.{Given, without_lines, given_in}
 use Rattle.tree_lines.specs.Canonical.{document_lines}
 use Rattle.tree_lines.specs.Writable.{IsWritable, ReadsBack}
+use Rattle.tree_lines.proofs.LineFacts.{fault_behind-parts, line_fault-parts}
 use Rattle.tree_lines.proofs.WrittenFaultless.{document-faultless}
 use Rattle.tree_lines.proofs.WrittenDocuments.{document_of, lines-written, top-written, parted-written, spaces-written, tree-again}
 
@@ -36,7 +32,7 @@ reads_back-writable names spaces tree distinct h =
       built = record { top = top-written names spaces tree h.whole.top; parted = parted-written names spaces tree h.declared h.nodes; faultless = faultless };
       lines = lines;
       declared = read;
-      same = λ table grown. ap (λ s. given_in table s document) read ∙ tree-again names table spaces tree distinct grown h.nodes h.whole.texts;
+      same = λ table grown numbers. ap (λ s. without_lines (given_in table s numbers document)) read ∙ tree-again names table spaces numbers tree distinct grown h.nodes h.whole.texts;
     }
 
 -- a line that breaks no rule has no LF within it
@@ -56,20 +52,11 @@ in_line line good =
     let text = encodes-chars line (IsUtf8-from_is_utf8 line parts.0) in
     λ i d within e. NoCharPasses-char 10 line i (chars line, text, none_feed (chars line) parts.1) (omega arith) within (get_or_default line i 0 d within ∙ e)
 
-line-kept : (spaces : List Space) (before : List (List ℕ)) (line : List ℕ) (good : Bool) → is_line line ≡ good
-    → (if good then said_fault spaces before (tag_of line) else Some rule.BadLine) ≡ None → is_line line ≡ true
-line-kept spaces before line true e h = e
-line-kept spaces before line false e h = absurd (none-some rule.BadLine (sym h))
-
-first-kept : (place : ℕ) (first : Option LineRule) (later : Option (ℕ × LineRule)) → or_later place first later ≡ None → (first ≡ None) × (later ≡ None)
-first-kept place None later h = (refl, h)
-first-kept place (Some broken) later h = absurd (none-some (place, broken) (sym h))
-
 lines_kept : (spaces : List Space) (before lines : List (List ℕ)) → fault_behind spaces before lines ≡ None → All (All IsInLine) lines
 lines_kept spaces before [] h = All-nil (All IsInLine)
 lines_kept spaces before (line ∷ lines) h =
-    let both = first-kept (length before) (line_fault spaces before line) (fault_behind spaces (line ∷ before) lines) h in
-    All-cons (All IsInLine) line lines (in_line line (line-kept spaces before line (is_line line) refl both.0)) (lines_kept spaces (line ∷ before) lines both.1)
+    let both = fault_behind-parts spaces before line lines h in
+    All-cons (All IsInLine) line lines (in_line line (line_fault-parts spaces before line both.0).0) (lines_kept spaces (line ∷ before) lines both.1)
 
 pub in_lines-writable : (names : List NameParts) (spaces : List Space) (tree : Given) → IsWritable names spaces tree → All (All (λ (c : ℕ). c ≢ 10)) (document_lines names spaces tree)
 in_lines-writable names spaces tree h = lines_kept spaces [] (document_lines names spaces tree) (document-faultless names spaces tree h)

@@ -1,10 +1,9 @@
 -- What the first byte of a line says.
-use Rattle.std.proofs.Common.{◌≡◌, ℕ, ◌<◌, eqb, Bool, true, false, List, [], ◌∷◌, None, Some, Option, length, refl, sym, ◌∙◌, ap, arith, cond, get_or}
-use Rattle.std.specs.Str.{chars, IsUtf8, IsCharBoundary}
+use Rattle.std.proofs.Common.{◌≡◌, ℕ, ◌<◌, eqb, Bool, true, false, List, [], ◌∷◌, None, refl, arith}
+use Rattle.std.specs.Str.{IsUtf8, IsCharBoundary}
 use Rattle.std.proofs.lemmas.Bool.{eqb-true}
 use Rattle.std.proofs.lemmas.Str.{IsCharBoundary-after_ascii}
-use Rattle.tree_lines.specs.Tags.{Tag, tag_of, attribute_tag}
-use Rattle.tree_lines.specs.Tags as tag
+use Rattle.tree_lines.specs.Tags.{tag_of}
 
 -- a text that cannot be cut behind its first byte says nothing
 tag_by : (b : ℕ) (rest : List ℕ) → ((b < 128) → ⊥) → (b1 b2 b3 b4 b5 : Bool) → eqb b 40 ≡ b1 → eqb b 65 ≡ b2 → eqb b 45 ≡ b3 → eqb b 67 ≡ b4 → eqb b 41 ≡ b5 → tag_of (b ∷ rest) ≡ None

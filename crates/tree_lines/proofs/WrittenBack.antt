@@ -1,5 +1,5 @@
 -- What is written of a document's tree are the document's own lines, with texts joined and declarations in front.
-use Rattle.std.proofs.Common.{◌≡◌, ◌≢◌, ℕ, ◌+◌, Bool, true, false, List, [], ◌∷◌, ◌++◌, Option, Some, None, map, refl, sym, ap, subst, ◌∙◌, arith, encode_utf8_all}
+use Rattle.std.proofs.Common.{◌≡◌, ◌≢◌, ℕ, ◌+◌, Bool, true, false, List, [], ◌∷◌, ◌++◌, Option, Some, None, map, length, drop, refl, sym, ap, subst, ◌∙◌, arith, encode_utf8_all}
 use Rattle.std.specs.Prelude.{◌&&◌, not, nat_le, nat_lt, if◌then◌else◌}
 use Rattle.std.specs.List.{AllByRecursion, flat_map, filter, take_while}
 use Rattle.std.specs.Str.{chars}
@@ -15,6 +15,7 @@ use Rattle.tree_lines.specs.Texts.{has_escapes, meant, size_of}
 use Rattle.tree_lines.specs.Tags.{Tag, tag_of, xmlns, is_declaration, declared_prefix}
 use Rattle.tree_lines.specs.Tags as tag
 use Rattle.tree_lines.specs.Before.{open_elements, text_size, begins_text, node_count}
+use Rattle.tree_lines.specs.LeftOpen.{left_open}
 use Rattle.tree_lines.specs.Faults.{is_nothing, attribute_fault, said_fault}
 use Rattle.tree_lines.specs.Written.{Written, Attribute, attribute_bytes, written_lines}
 use Rattle.tree_lines.specs.Written as written
@@ -27,14 +28,14 @@ use Rattle.tree_lines.specs.Canonical.{spelling_of, escaped, document_lines}
 use Rattle.tree_lines.specs.Writable.{with_line, declarations_first, rewritten}
 use Rattle.tree_lines.proofs.Stored.{IsStored, AllByRecursion-parts}
 use Rattle.tree_lines.proofs.MeantTexts.{is_line-parts, meant-chars}
-use Rattle.tree_lines.proofs.LineFacts.{begin_fault-parts, line_fault-parts}
+use Rattle.tree_lines.proofs.LineFacts.{first-kept, begin_fault-parts, line_fault-parts}
 use Rattle.tree_lines.proofs.WasRead.{IsRead, lines_read}
 use Rattle.tree_lines.proofs.Said.{names_stored}
 use Rattle.tree_lines.proofs.WrittenTexts.{written_text}
-use Rattle.tree_lines.proofs.WrittenNames.{tag_of-attribute}
+use Rattle.tree_lines.proofs.Parts.{tag_of-attribute}
 use Rattle.tree_lines.proofs.Escapes.{escaped-apart}
 use Rattle.tree_lines.proofs.WrittenAgain.{IsLineText, written-meant, written_text-append, element-spelling, attribute-spelling, declaring-back}
-use Rattle.tree_lines.proofs.WrittenInner.{head-none, pair-escapes, AreNamed, DeclareNone, AreInner, comments-inner, IsInside, is_inside}
+use Rattle.tree_lines.proofs.WrittenInner.{pair-escapes, AreNamed, DeclareNone, AreInner, comments-inner, IsInside, is_inside}
 use Rattle.tree_lines.proofs.WrittenDocuments.{declared_by-attribute, written_pair, written_space, content_of, document_of, lines-written}
 
 -- attributes
@@ -50,7 +51,7 @@ attribute-read table spaces attribute named read =
     let value : List ℕ = attribute.value in
     let said = tag_of-attribute name value named in
     let parts = line_fault-parts spaces read.before (attribute_bytes attribute) read.none in
-    let kept : attribute_fault spaces read.before name value ≡ None = sym (ap (said_fault spaces read.before) said) ∙ parts.1 in
+    let kept : attribute_fault (left_open spaces read.before) name value ≡ None = sym (ap (said_fault (left_open spaces read.before)) said) ∙ parts.1 in
     let line = is_line-parts name value 32 (omega arith) (is_line-parts [] (name ++ 32 ∷ value) 65 (omega arith) parts.0).1 in
     let stored : AllByRecursion (IsStored table) (names_by spaces (Some (tag.Attribute name value))) = subst (λ (t : Option Tag). AllByRecursion (IsStored table) (names_by spaces t)) said read.stored in
     record {
@@ -142,7 +143,7 @@ text-in_front table (c ∷ cs) (given.text u rest) =
     ap (λ (x : List ℕ). written.text x (content_of table rest)) (written_text-append (c ∷ cs) u)
     ∙ sym (line-text (written_text (c ∷ cs)) (written_text u) (content_of table rest) (some-written c cs))
 text-in_front table (c ∷ cs) (given.comment u rest) = sym (line-comment (written_text (c ∷ cs)) (written_text u) (content_of table rest) (some-written c cs))
-text-in_front table (c ∷ cs) (given.element id attributes content rest) =
+text-in_front table (c ∷ cs) (given.element id attributes line content rest) =
     sym (line-element (written_text (c ∷ cs)) (spelling_of table id) (map (written_pair table) attributes) (content_of table content) (content_of table rest) (some-written c cs))
 
 -- the lines of a content
@@ -154,14 +155,14 @@ text-read : (table : List NameParts) (spaces : List Space) (t : List ℕ) → Is
 text-read table spaces t read =
     let parts = line_fault-parts spaces read.before (45 ∷ t) read.none in
     let more : List (Bool × LineRule) = (not (has_escapes t), rule.BadEscape) ∷ text_rules read.before t in
-    let inside = head-none (is_nothing (open_elements read.before)) rule.BadLine more parts.1 in
-    let escaped = head-none (not (has_escapes t)) rule.BadEscape (text_rules read.before t) inside.1 in
+    let inside = first-kept (is_nothing (open_elements read.before)) rule.BadLine more parts.1 in
+    let escaped = first-kept (not (has_escapes t)) rule.BadEscape (text_rules read.before t) inside.1 in
     record { good = (is_line-parts [] t 45 (omega arith) parts.0).1; escapes = not-false (has_escapes t) escaped.0 }
 
 comment-read : (table : List NameParts) (spaces : List Space) (t : List ℕ) → IsRead table spaces (67 ∷ t) → IsLineText t
 comment-read table spaces t read =
     let parts = line_fault-parts spaces read.before (67 ∷ t) read.none in
-    let escaped = head-none (not (has_escapes t)) rule.BadEscape ((nat_le 1000000 (node_count read.before), rule.TooManyNodes) ∷ []) parts.1 in
+    let escaped = first-kept (not (has_escapes t)) rule.BadEscape ((nat_le 1000000 (node_count read.before), rule.TooManyNodes) ∷ []) parts.1 in
     record { good = (is_line-parts [] t 67 (omega arith) parts.0).1; escapes = not-false (has_escapes t) escaped.0 }
 
 element-read : (table : List NameParts) (spaces : List Space) (name : List ℕ) → IsRead table spaces (40 ∷ name) → spelling_of table (id_of table (element_name spaces name)) ≡ name
@@ -184,21 +185,23 @@ parts-read table spaces name attributes content rest named read =
     let two = AllByRecursion-parts (IsRead table spaces) (written_lines content) after one.1 in
     record { begins = read.0; own = attributes-read table spaces attributes named one.0; inside = two.0; behind = two.1.1 }
 
-content-back : (table : List NameParts) (spaces : List Space) (w : Written) → AllByRecursion (IsRead table spaces) (written_lines w) → AreParted w → AreInner w
-    → content_of table (given_in table spaces w) ≡ rewritten w
-content-back table spaces written.end read named inner = refl
-content-back table spaces (written.text t rest) read named inner =
-    text-in_front table (meant t) (given_in table spaces rest)
-    ∙ (λ i. with_line (written-meant t (text-read table spaces t read.0) i) (content-back table spaces rest read.1 named inner i))
-content-back table spaces (written.comment t rest) read named inner =
-    λ i. written.comment (written-meant t (comment-read table spaces t read.0) i) (content-back table spaces rest read.1 named inner i)
-content-back table spaces (written.element name attributes content rest) read named inner =
+content-back : (table : List NameParts) (spaces : List Space) (numbers : List ℕ) (w : Written) → AllByRecursion (IsRead table spaces) (written_lines w) → AreParted w → AreInner w
+    → content_of table (given_in table spaces numbers w) ≡ rewritten w
+content-back table spaces numbers written.end read named inner = refl
+content-back table spaces numbers (written.text t rest) read named inner =
+    text-in_front table (meant t) (given_in table spaces (drop 1 numbers) rest)
+    ∙ (λ i. with_line (written-meant t (text-read table spaces t read.0) i) (content-back table spaces (drop 1 numbers) rest read.1 named inner i))
+content-back table spaces numbers (written.comment t rest) read named inner =
+    λ i. written.comment (written-meant t (comment-read table spaces t read.0) i) (content-back table spaces (drop 1 numbers) rest read.1 named inner i)
+content-back table spaces numbers (written.element name attributes content rest) read named inner =
+    let within : List ℕ = drop (1 + length attributes) numbers in
+    let after : List ℕ = drop (1 + length (written_lines content)) within in
     let parts = parts-read table spaces name attributes content rest named.0 read in
     let own : pairs_back table spaces attributes ≡ declarations_first attributes =
     pairs-back table spaces attributes parts.own
     ∙ ap (λ (x : List Attribute). x ++ filter (λ (a : Attribute). not (declares a)) attributes) (sym (none-declare attributes inner.0)) in
-    λ i. written.element (element-read table spaces name parts.begins i) (own i) (content-back table spaces content parts.inside named.1 inner.1 i)
-    (content-back table spaces rest parts.behind named.2 inner.2 i)
+    λ i. written.element (element-read table spaces name parts.begins i) (own i) (content-back table spaces within content parts.inside named.1 inner.1 i)
+    (content-back table spaces after rest parts.behind named.2 inner.2 i)
 
 -- the lines of a document
 while-attributes : (attributes : List Attribute) (lines : List (List ℕ)) → take_while (begins_with 65) lines ≡ []
@@ -219,13 +222,15 @@ declared-lines : (table : List NameParts) (spaces : List Space) (attributes : Li
 declared-lines table spaces [] read = refl
 declared-lines table spaces (a ∷ attributes) read = λ i. read.0.declares i ++ declared-lines table spaces attributes read.1 i
 
-document-back : (table : List NameParts) (spaces : List Space) (w : Written) → IsTop w → AllByRecursion (IsRead table spaces) (written_lines w) → AreParted w → IsInside w
-    → spaces_in (written_lines w) ≡ spaces → document_of table spaces (given_in table spaces w) ≡ rewritten w
-document-back table spaces written.end top read named inside same = absurd top
-document-back table spaces (written.text t rest) top read named inside same = absurd top
-document-back table spaces (written.comment t rest) top read named inside same =
-    λ i. written.comment (written-meant t (comment-read table spaces t read.0) i) (document-back table spaces rest top read.1 named inside same i)
-document-back table spaces (written.element name attributes content rest) top read named inside same =
+document-back : (table : List NameParts) (spaces : List Space) (numbers : List ℕ) (w : Written) → IsTop w → AllByRecursion (IsRead table spaces) (written_lines w) → AreParted w → IsInside w
+    → spaces_in (written_lines w) ≡ spaces → document_of table spaces (given_in table spaces numbers w) ≡ rewritten w
+document-back table spaces numbers written.end top read named inside same = absurd top
+document-back table spaces numbers (written.text t rest) top read named inside same = absurd top
+document-back table spaces numbers (written.comment t rest) top read named inside same =
+    λ i. written.comment (written-meant t (comment-read table spaces t read.0) i) (document-back table spaces (drop 1 numbers) rest top read.1 named inside same i)
+document-back table spaces numbers (written.element name attributes content rest) top read named inside same =
+    let within : List ℕ = drop (1 + length attributes) numbers in
+    let after : List ℕ = drop (1 + length (written_lines content)) within in
     let parts = parts-read table spaces name attributes content rest named.0 read in
     let behind : List (List ℕ) = written_lines content ++ ((41 ∷ name) ∷ written_lines rest) in
     let found : take_while (begins_with 65) (map attribute_bytes attributes ++ behind) ≡ map attribute_bytes attributes =
@@ -234,13 +239,13 @@ document-back table spaces (written.element name attributes content rest) top re
     sym same ∙ ap (flat_map declared_by) found ∙ declared-lines table spaces attributes parts.own in
     let first : map written_space spaces ≡ filter declares attributes = ap (map written_space) declared_here ∙ spaces-back table spaces attributes parts.own in
     let second = pairs-back table spaces attributes parts.own in
-    λ i. written.element (element-read table spaces name parts.begins i) (first i ++ second i) (content-back table spaces content parts.inside named.1 inside i)
-    (content-back table spaces rest parts.behind named.2 (comments-inner rest top) i)
+    λ i. written.element (element-read table spaces name parts.begins i) (first i ++ second i) (content-back table spaces within content parts.inside named.1 inside i)
+    (content-back table spaces after rest parts.behind named.2 (comments-inner rest top) i)
 
-pub document-written_back : (names table : List NameParts) (document : Written) → IsDocument document → Grows (names_with names (written_lines document)) table
-    → document_lines table (spaces_of document) (given_of table document) ≡ written_lines (rewritten document)
-document-written_back names table document is grown =
+pub document-written_back : (names table : List NameParts) (numbers : List ℕ) (document : Written) → IsDocument document → Grows (names_with names (written_lines document)) table
+    → document_lines table (spaces_of document) (given_of table numbers document) ≡ written_lines (rewritten document)
+document-written_back names table numbers document is grown =
     let spaces : List Space = spaces_of document in
     let read = lines_read table spaces [] (written_lines document) is.faultless (names_stored names table (written_lines document) grown) in
-    lines-written table spaces (given_of table document)
-    ∙ ap written_lines (document-back table spaces document is.top read is.parted (is_inside spaces document [] is.parted is.faultless) refl)
+    lines-written table spaces (given_of table numbers document)
+    ∙ ap written_lines (document-back table spaces numbers document is.top read is.parted (is_inside spaces document [] is.parted is.faultless) refl)

@@ -1,5 +1,5 @@
 -- The document that is written of a tree: its lines, what it declares, and its tree again.
-use Rattle.std.proofs.Common.{◌≡◌, ◌≢◌, ℕ, ◌+◌, Bool, true, false, List, [], ◌∷◌, ◌++◌, Option, Some, None, zero, suc, map, slice_get, refl, sym, ap, ◌∙◌, arith, append_assoc, append-nil, encode_utf8_all}
+use Rattle.std.proofs.Common.{◌≡◌, ◌≢◌, ℕ, ◌+◌, Bool, true, false, List, [], ◌∷◌, ◌++◌, Option, Some, None, zero, suc, map, length, drop, slice_get, refl, sym, ap, ◌∙◌, arith, append_assoc, append-nil, encode_utf8_all}
 use Rattle.std.specs.Prelude.{IsTrue, if◌then◌else◌}
 use Rattle.std.specs.List.{AllByRecursion, flat_map, take_while, list_any, position_or_len}
 use Rattle.std.specs.Str.{chars}
@@ -18,13 +18,14 @@ use Rattle.tree_lines.specs.Tags.{declared_prefix}
 use Rattle.tree_lines.specs.Written.{Written, Attribute, attribute_bytes, written_lines}
 use Rattle.tree_lines.specs.Written as written
 use Rattle.tree_lines.specs.Declarations.{begins_with, declared, declared_behind, declared_by, spaces_in}
-use Rattle.tree_lines.specs.Given.{Given, BeginsNoText, AreTexts, with_text, pair_for, pair_in, given_in}
+use Rattle.tree_lines.specs.Given.{Given, without_lines, BeginsNoText, AreTexts, with_text, pair_for, pair_in, given_in}
 use Rattle.tree_lines.specs.Given as given
 use Rattle.tree_lines.specs.Documents as document
 use Rattle.tree_lines.specs.Canonical.{spelling_of, declaring_name, begin_line, end_line, attribute_line, declaration_line, canonical_lines, document_lines}
 use Rattle.tree_lines.specs.Writable.{IsElementName, IsAttributeName, IsPair, AreNodes, AreSpaces}
 use Rattle.tree_lines.proofs.WrittenTexts.{written_text, meant-written, is_line-written, is_line-utf8}
-use Rattle.tree_lines.proofs.WrittenNames.{parted-name, is_name-declaring, is_declaration-declaring, declared_prefix-declaring, is_line-declaring, is_line-attribute, spelling_of-stored}
+use Rattle.tree_lines.proofs.Parts.{parted-name}
+use Rattle.tree_lines.proofs.WrittenNames.{is_name-declaring, is_declaration-declaring, declared_prefix-declaring, is_line-declaring, is_line-attribute, spelling_of-stored}
 use Rattle.tree_lines.proofs.WrittenPasses.{pair_name, read_pair_name}
 
 -- an attribute and a declaration as they are written
@@ -39,14 +40,14 @@ abbrev pub content_of : List NameParts → Given → Written
 content_of names given.end = written.end
 content_of names (given.text t rest) = written.text (written_text t) (content_of names rest)
 content_of names (given.comment t rest) = written.comment (written_text t) (content_of names rest)
-content_of names (given.element id attributes content rest) =
+content_of names (given.element id attributes line content rest) =
     written.element (spelling_of names id) (map (written_pair names) attributes) (content_of names content) (content_of names rest)
 
 abbrev pub document_of : List NameParts → List Space → Given → Written
 document_of names spaces given.end = written.end
 document_of names spaces (given.text t rest) = written.text (written_text t) (document_of names spaces rest)
 document_of names spaces (given.comment t rest) = written.comment (written_text t) (document_of names spaces rest)
-document_of names spaces (given.element id attributes content rest) =
+document_of names spaces (given.element id attributes line content rest) =
     written.element (spelling_of names id) (map written_space spaces ++ map (written_pair names) attributes) (content_of names content) (content_of names rest)
 
 -- the lines
@@ -66,14 +67,14 @@ content-lines : (names : List NameParts) (tree : Given) → canonical_lines name
 content-lines names given.end = refl
 content-lines names (given.text t rest) = ap (λ (x : List (List ℕ)). (45 ∷ written_text t) ∷ x) (content-lines names rest)
 content-lines names (given.comment t rest) = ap (λ (x : List (List ℕ)). (67 ∷ written_text t) ∷ x) (content-lines names rest)
-content-lines names (given.element id attributes content rest) =
+content-lines names (given.element id attributes line content rest) =
     element-lines (begin_line names id) (end_line names id) _ _ _ _ _ _ (pair-lines names attributes) (content-lines names content) (content-lines names rest)
 
 pub lines-written : (names : List NameParts) (spaces : List Space) (tree : Given) → document_lines names spaces tree ≡ written_lines (document_of names spaces tree)
 lines-written names spaces given.end = refl
 lines-written names spaces (given.text t rest) = ap (λ (x : List (List ℕ)). (45 ∷ written_text t) ∷ x) (lines-written names spaces rest)
 lines-written names spaces (given.comment t rest) = ap (λ (x : List (List ℕ)). (67 ∷ written_text t) ∷ x) (lines-written names spaces rest)
-lines-written names spaces (given.element id attributes content rest) =
+lines-written names spaces (given.element id attributes line content rest) =
     let both : map declaration_line spaces ++ map (attribute_line names) attributes ≡ map attribute_bytes (map written_space spaces ++ map (written_pair names) attributes) =
     ap (λ x. x ++ map (attribute_line names) attributes) (space-lines spaces)
     ∙ ap (λ x. map attribute_bytes (map written_space spaces) ++ x) (pair-lines names attributes)
@@ -85,13 +86,13 @@ comments-written : (names : List NameParts) (tree : Given) → given.AreComments
 comments-written names given.end h = tt
 comments-written names (given.text t rest) h = absurd h
 comments-written names (given.comment t rest) h = comments-written names rest h
-comments-written names (given.element id attributes content rest) h = absurd h
+comments-written names (given.element id attributes line content rest) h = absurd h
 
 pub top-written : (names : List NameParts) (spaces : List Space) (tree : Given) → given.IsTop tree → document.IsTop (document_of names spaces tree)
 top-written names spaces given.end h = absurd h
 top-written names spaces (given.text t rest) h = absurd h
 top-written names spaces (given.comment t rest) h = top-written names spaces rest h
-top-written names spaces (given.element id attributes content rest) h = comments-written names rest h
+top-written names spaces (given.element id attributes line content rest) h = comments-written names rest h
 
 -- each attribute's name is a name
 abbrev AreNamed : List Attribute → Type 0
@@ -109,14 +110,14 @@ content-parted : (names : List NameParts) (spaces : List Space) (tree : Given) �
 content-parted names spaces given.end h = tt
 content-parted names spaces (given.text t rest) h = content-parted names spaces rest h.1
 content-parted names spaces (given.comment t rest) h = content-parted names spaces rest h.1
-content-parted names spaces (given.element id attributes content rest) h =
+content-parted names spaces (given.element id attributes line content rest) h =
     (pairs-named names spaces attributes h.1, content-parted names spaces content h.3, content-parted names spaces rest h.4)
 
 pub parted-written : (names : List NameParts) (spaces : List Space) (tree : Given) → AreSpaces spaces → AreNodes names spaces tree → document.AreParted (document_of names spaces tree)
 parted-written names spaces given.end g h = tt
 parted-written names spaces (given.text t rest) g h = parted-written names spaces rest g h.1
 parted-written names spaces (given.comment t rest) g h = parted-written names spaces rest g h.1
-parted-written names spaces (given.element id attributes content rest) g h = (
+parted-written names spaces (given.element id attributes line content rest) g h = (
   spaces-named spaces (map (written_pair names) attributes) g (pairs-named names spaces attributes h.1),
   content-parted names spaces content h.3,
   content-parted names spaces rest h.4,
@@ -178,13 +179,13 @@ while-content : (names : List NameParts) (tree : Given) (id : NameId) (lines : L
 while-content names given.end id lines = refl
 while-content names (given.text t rest) id lines = refl
 while-content names (given.comment t rest) id lines = refl
-while-content names (given.element other attributes content rest) id lines = refl
+while-content names (given.element other attributes line content rest) id lines = refl
 
 pub spaces-written : (names : List NameParts) (spaces : List Space) (tree : Given) → AreSpaces spaces → AreNodes names spaces tree → given.IsTop tree → spaces_in (document_lines names spaces tree) ≡ spaces
 spaces-written names spaces given.end g h top = absurd top
 spaces-written names spaces (given.text t rest) g h top = absurd top
 spaces-written names spaces (given.comment t rest) g h top = spaces-written names spaces rest g h.1 top
-spaces-written names spaces (given.element id attributes content rest) g h top =
+spaces-written names spaces (given.element id attributes line content rest) g h top =
     let declarations : List (List ℕ) = map declaration_line spaces in
     let pairs : List (List ℕ) = map (attribute_line names) attributes in
     let behind : List (List ℕ) = canonical_lines names content ++ (end_line names id ∷ canonical_lines names rest) in
@@ -269,30 +270,55 @@ with_text-alone [] rest some b = absurd (some refl)
 with_text-alone (c ∷ cs) given.end some b = refl
 with_text-alone (c ∷ cs) (given.text u rest) some b = absurd b
 with_text-alone (c ∷ cs) (given.comment u rest) some b = refl
-with_text-alone (c ∷ cs) (given.element id attributes content rest) some b = refl
+with_text-alone (c ∷ cs) (given.element id attributes line content rest) some b = refl
+
+without_lines-text : (t : List ℕ) (tree : Given) → without_lines (with_text t tree) ≡ with_text t (without_lines tree)
+without_lines-text [] tree = refl
+without_lines-text (c ∷ cs) given.end = refl
+without_lines-text (c ∷ cs) (given.text u rest) = refl
+without_lines-text (c ∷ cs) (given.comment u rest) = refl
+without_lines-text (c ∷ cs) (given.element id attributes line content rest) = refl
+
+BeginsNoText-without : (tree : Given) → BeginsNoText tree → BeginsNoText (without_lines tree)
+BeginsNoText-without given.end b = b
+BeginsNoText-without (given.text u rest) b = b
+BeginsNoText-without (given.comment u rest) b = b
+BeginsNoText-without (given.element id attributes line content rest) b = b
+
+-- a text in front of a tree that is as it was
+text-again : (t u : List ℕ) (tree rest : Given) → t ≡ u → without_lines tree ≡ without_lines rest → (u ≢ []) → BeginsNoText rest
+    → without_lines (with_text t tree) ≡ without_lines (given.text u rest)
+text-again t u tree rest same again some b =
+    without_lines-text t tree ∙ (λ i. with_text (same i) (again i)) ∙ with_text-alone u (without_lines rest) some (BeginsNoText-without rest b)
 
 -- the document's tree is the tree that was written
-content-again : (names table : List NameParts) (spaces : List Space) (tree : Given) → AreDistinct names → Grows names table → AreNodes names spaces tree → AreTexts tree
-    → given_in table spaces (content_of names tree) ≡ tree
-content-again names table spaces given.end distinct grown h texts = refl
-content-again names table spaces (given.text t rest) distinct grown h texts =
-    (λ i. with_text (meant-written t h.0 i) (content-again names table spaces rest distinct grown h.1 texts.3 i)) ∙ with_text-alone t rest texts.0 texts.2
-content-again names table spaces (given.comment t rest) distinct grown h texts =
-    λ i. given.comment (meant-written t h.0 i) (content-again names table spaces rest distinct grown h.1 texts i)
-content-again names table spaces (given.element id attributes content rest) distinct grown h texts =
-    λ i. given.element (element-number names table spaces id distinct grown h.0 i) (pairs-again names table spaces attributes distinct grown h.1 i)
-    (content-again names table spaces content distinct grown h.3 texts.1 i) (content-again names table spaces rest distinct grown h.4 texts.2 i)
+content-again : (names table : List NameParts) (spaces : List Space) (numbers : List ℕ) (tree : Given) → AreDistinct names → Grows names table → AreNodes names spaces tree → AreTexts tree
+    → without_lines (given_in table spaces numbers (content_of names tree)) ≡ without_lines tree
+content-again names table spaces numbers given.end distinct grown h texts = refl
+content-again names table spaces numbers (given.text t rest) distinct grown h texts =
+    text-again (meant (written_text t)) t (given_in table spaces (drop 1 numbers) (content_of names rest)) rest (meant-written t h.0)
+    (content-again names table spaces (drop 1 numbers) rest distinct grown h.1 texts.3) texts.0 texts.2
+content-again names table spaces numbers (given.comment t rest) distinct grown h texts =
+    λ i. given.comment (meant-written t h.0 i) (content-again names table spaces (drop 1 numbers) rest distinct grown h.1 texts i)
+content-again names table spaces numbers (given.element id attributes line content rest) distinct grown h texts =
+    let inner : List ℕ = drop (1 + length (map (written_pair names) attributes)) numbers in
+    let behind : List ℕ = drop (1 + length (written_lines (content_of names content))) inner in
+    λ i. given.element (element-number names table spaces id distinct grown h.0 i) (pairs-again names table spaces attributes distinct grown h.1 i) 0
+    (content-again names table spaces inner content distinct grown h.3 texts.1 i) (content-again names table spaces behind rest distinct grown h.4 texts.2 i)
 
-pub tree-again : (names table : List NameParts) (spaces : List Space) (tree : Given) → AreDistinct names → Grows names table → AreNodes names spaces tree → AreTexts tree
-    → given_in table spaces (document_of names spaces tree) ≡ tree
-tree-again names table spaces given.end distinct grown h texts = refl
-tree-again names table spaces (given.text t rest) distinct grown h texts =
-    (λ i. with_text (meant-written t h.0 i) (tree-again names table spaces rest distinct grown h.1 texts.3 i)) ∙ with_text-alone t rest texts.0 texts.2
-tree-again names table spaces (given.comment t rest) distinct grown h texts =
-    λ i. given.comment (meant-written t h.0 i) (tree-again names table spaces rest distinct grown h.1 texts i)
-tree-again names table spaces (given.element id attributes content rest) distinct grown h texts =
+pub tree-again : (names table : List NameParts) (spaces : List Space) (numbers : List ℕ) (tree : Given) → AreDistinct names → Grows names table → AreNodes names spaces tree → AreTexts tree
+    → without_lines (given_in table spaces numbers (document_of names spaces tree)) ≡ without_lines tree
+tree-again names table spaces numbers given.end distinct grown h texts = refl
+tree-again names table spaces numbers (given.text t rest) distinct grown h texts =
+    text-again (meant (written_text t)) t (given_in table spaces (drop 1 numbers) (document_of names spaces rest)) rest (meant-written t h.0)
+    (tree-again names table spaces (drop 1 numbers) rest distinct grown h.1 texts.3) texts.0 texts.2
+tree-again names table spaces numbers (given.comment t rest) distinct grown h texts =
+    λ i. given.comment (meant-written t h.0 i) (tree-again names table spaces (drop 1 numbers) rest distinct grown h.1 texts i)
+tree-again names table spaces numbers (given.element id attributes line content rest) distinct grown h texts =
+    let inner : List ℕ = drop (1 + length (map written_space spaces ++ map (written_pair names) attributes)) numbers in
+    let behind : List ℕ = drop (1 + length (written_lines (content_of names content))) inner in
     let own : flat_map (pair_in table spaces) (map written_space spaces ++ map (written_pair names) attributes) ≡ attributes =
     flat_map-append (pair_in table spaces) (map written_space spaces) (map (written_pair names) attributes)
     ∙ (λ i. spaces-again table spaces spaces i ++ pairs-again names table spaces attributes distinct grown h.1 i) in
-    λ i. given.element (element-number names table spaces id distinct grown h.0 i) (own i)
-    (content-again names table spaces content distinct grown h.3 texts.1 i) (content-again names table spaces rest distinct grown h.4 texts.2 i)
+    λ i. given.element (element-number names table spaces id distinct grown h.0 i) (own i) 0
+    (content-again names table spaces inner content distinct grown h.3 texts.1 i) (content-again names table spaces behind rest distinct grown h.4 texts.2 i)

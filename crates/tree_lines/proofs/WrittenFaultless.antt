@@ -9,7 +9,7 @@ use Rattle.serna_kinds.specs.Qualified.{prefix_of, is_name, element_uri}
 use Rattle.tree_lines.specs.declared.rules.LineRule.TheVariants as rule
 use Rattle.tree_lines.specs.Texts.{is_line}
 use Rattle.tree_lines.specs.Before.{OpenElement, without_innermost, open_elements, has_element, text_size, node_count}
-use Rattle.tree_lines.specs.Faults.{is_nothing, is_innermost, end_fault, fault_behind}
+use Rattle.tree_lines.specs.Faults.{is_nothing, is_innermost, ending_fault, fault_behind}
 use Rattle.tree_lines.specs.Given.{Given, count_of, depth_of, BeginsNoText, AreTexts, AreComments, IsTop}
 use Rattle.tree_lines.specs.Given as given
 use Rattle.tree_lines.specs.Canonical.{spelled, spelling_of, text_line, comment_line, attribute_line, canonical_lines, declaration_line, document_lines}
@@ -31,19 +31,19 @@ abbrev IsReady : Given → ℕ → Type 0
 IsReady given.end size = Unit {0}
 IsReady (given.text t rest) size = size ≡ 0
 IsReady (given.comment t rest) size = Unit {0}
-IsReady (given.element name attributes content rest) size = Unit {0}
+IsReady (given.element name attributes line content rest) size = Unit {0}
 
 ready-no_text : (tree : Given) (size : ℕ) → BeginsNoText tree → IsReady tree size
 ready-no_text given.end size h = tt
 ready-no_text (given.text t rest) size h = absurd h
 ready-no_text (given.comment t rest) size h = tt
-ready-no_text (given.element name attributes content rest) size h = tt
+ready-no_text (given.element name attributes line content rest) size h = tt
 
 ready-first : (tree : Given) (size : ℕ) → size ≡ 0 → IsReady tree size
 ready-first given.end size h = tt
 ready-first (given.text t rest) size h = h
 ready-first (given.comment t rest) size h = tt
-ready-first (given.element name attributes content rest) size h = tt
+ready-first (given.element name attributes line content rest) size h = tt
 
 -- an element's name that is written
 record IsWrittenName (spaces : List Space) (name : List ℕ) : Type 0 where
@@ -155,7 +155,7 @@ content-passes names spaces (given.comment t rest) before inside begun ready goo
     let passed = line_fault-comment spaces before t good.0 (omega (arith, few)) in
     follows-line spaces before line (canonical_lines names rest) (count_of rest) (λ lines. passes-line spaces before line lines passed) refl refl
     (content-passes names spaces rest (line ∷ before) inside begun (ready-first rest 0 refl) good.1 texts (omega (arith, few)) shallow)
-content-passes names spaces (given.element id attributes content rest) before inside begun ready good texts few shallow =
+content-passes names spaces (given.element id attributes number content rest) before inside begun ready good texts few shallow =
     let name : List ℕ = spelling_of names id in
     let begins : List ℕ = 40 ∷ name in
     let first = pairs-pass names spaces attributes (begins ∷ before) refl refl good.1 texts.0 good.2 (fresh-all names spaces (begins ∷ before) (λ other. refl) attributes) in
@@ -174,12 +174,12 @@ content-passes names spaces (given.element id attributes content rest) before in
 comments-pass : (names : List NameParts) (spaces : List Space) (tree : Given) (before : List (List ℕ)) → AreComments tree → open_elements before ≡ [] → has_element before ≡ true
     → AreNodes names spaces tree → node_count before + count_of tree ≤ 1000000 → fault_behind spaces before (canonical_lines names tree) ≡ None
 comments-pass names spaces given.end before top outside begun good few =
-    ap (λ (o : List OpenElement). end_fault o before) outside ∙ ap (λ b. if b then None else Some (length before, rule.NoElement)) begun
+    ap (λ (o : List OpenElement). ending_fault o (has_element before) (length before)) outside ∙ ap (λ b. if b then None else Some (length before, rule.NoElement)) begun
 comments-pass names spaces (given.text t rest) before top outside begun good few = absurd top
 comments-pass names spaces (given.comment t rest) before top outside begun good few =
     passes-line spaces before (comment_line t) (canonical_lines names rest) (line_fault-comment spaces before t good.0 (omega (arith, few)))
     ∙ comments-pass names spaces rest (comment_line t ∷ before) top outside begun good.1 (omega (arith, few))
-comments-pass names spaces (given.element id attributes content rest) before top outside begun good few = absurd top
+comments-pass names spaces (given.element id attributes number content rest) before top outside begun good few = absurd top
 
 -- the lines of a whole document
 document-passes : (names : List NameParts) (spaces : List Space) (tree : Given) (before : List (List ℕ)) → AreSpaces spaces → IsTop tree → open_elements before ≡ [] → has_element before ≡ false
@@ -190,7 +190,7 @@ document-passes names spaces (given.text t rest) before declared top outside fir
 document-passes names spaces (given.comment t rest) before declared top outside first good texts few shallow =
     passes-line spaces before (comment_line t) (document_lines names spaces rest) (line_fault-comment spaces before t good.0 (omega (arith, few)))
     ∙ document-passes names spaces rest (comment_line t ∷ before) declared top outside first good.1 texts (omega (arith, few)) shallow
-document-passes names spaces (given.element id attributes content rest) before declared top outside first good texts few shallow =
+document-passes names spaces (given.element id attributes number content rest) before declared top outside first good texts few shallow =
     let name : List ℕ = spelling_of names id in
     let begins : List ℕ = 40 ∷ name in
     let own : OpenElement = record { place = length before; name = name } in

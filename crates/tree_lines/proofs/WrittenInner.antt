@@ -3,7 +3,6 @@ use Rattle.std.proofs.Common.{◌≡◌, ℕ, ◌+◌, ◌≤◌, Bool, true, fa
 use Rattle.std.specs.Prelude.{◌==◌, ◌&&◌, not, nat_lt, is_some, IsTrue, if◌then◌else◌}
 use Rattle.std.specs.List.{AllByRecursion}
 use Rattle.std.proofs.lemmas.Bool.{not-false, ne_eqb}
-use Rattle.std.proofs.lemmas.Option.{none-some}
 use Rattle.serna_kinds.specs.Names.{Space}
 use Rattle.serna_kinds.specs.Qualified.{prefix_of, is_name, attribute_uri}
 use Rattle.tree_lines.specs.declared.rules.LineRule.{LineRule}
@@ -11,17 +10,13 @@ use Rattle.tree_lines.specs.declared.rules.LineRule.TheVariants as rule
 use Rattle.tree_lines.specs.Texts.{has_escapes, meant, size_of}
 use Rattle.tree_lines.specs.Tags.{is_declaration, declared_prefix}
 use Rattle.tree_lines.specs.Before.{opened, without_innermost, open_elements, takes_attribute}
-use Rattle.tree_lines.specs.Faults.{first_broken, declares_already, has_already, is_nothing, declaration_fault, inner_declaration_fault, pair_fault, attribute_fault, said_fault, fault_behind}
+use Rattle.tree_lines.specs.LeftOpen.{declares_already, has_already, left_open}
+use Rattle.tree_lines.specs.Faults.{first_broken, is_nothing, declaration_fault, inner_declaration_fault, pair_fault, attribute_fault, said_fault, fault_behind}
 use Rattle.tree_lines.specs.Written.{Written, Attribute, attribute_bytes, written_lines}
 use Rattle.tree_lines.specs.Written as written
 use Rattle.tree_lines.specs.Documents.{AreComments, AreParted}
-use Rattle.tree_lines.proofs.LineFacts.{fault_behind-parts, line_fault-parts}
-use Rattle.tree_lines.proofs.WrittenNames.{tag_of-attribute}
-
--- what is known of a line that breaks no rule
-pub head-none : (broken : Bool) (at : LineRule) (more : List (Bool × LineRule)) → first_broken ((broken, at) ∷ more) ≡ None → (broken ≡ false) × (first_broken more ≡ None)
-head-none false at more h = (refl, h)
-head-none true at more h = absurd (none-some at (sym h))
+use Rattle.tree_lines.proofs.LineFacts.{first-kept, fault_behind-parts, line_fault-parts}
+use Rattle.tree_lines.proofs.Parts.{tag_of-attribute}
 
 -- an attribute's line begins with these rules, whatever follows
 escapes-kept : (before : List (List ℕ)) (name value : List ℕ) (more : List (Bool × LineRule))
@@ -30,9 +25,9 @@ escapes-kept : (before : List (List ℕ)) (name value : List ℕ) (more : List (
 escapes-kept before name value more h =
     let third : List (Bool × LineRule) = (not (has_escapes value), rule.BadEscape) ∷ more in
     let second : List (Bool × LineRule) = (not (is_name name), rule.BadName) ∷ third in
-    let one = head-none (not (takes_attribute before)) rule.BadLine second h in
-    let two = head-none (not (is_name name)) rule.BadName third one.1 in
-    let three = head-none (not (has_escapes value)) rule.BadEscape more two.1 in
+    let one = first-kept (not (takes_attribute before)) rule.BadLine second h in
+    let two = first-kept (not (is_name name)) rule.BadName third one.1 in
+    let three = first-kept (not (has_escapes value)) rule.BadEscape more two.1 in
     (not-false (has_escapes value) three.0, three.1)
 
 abbrev declaration_rules : List (List ℕ) → List ℕ → List ℕ → List (Bool × LineRule)
@@ -45,28 +40,28 @@ pair_rules spaces before name value =
     ∷ (not (is_some (attribute_uri spaces (prefix_of name))), rule.UnboundPrefix) ∷ []
 
 escapes-by : (spaces : List Space) (before : List (List ℕ)) (name value : List ℕ) (declares outermost : Bool)
-    → (if declares then (if outermost then declaration_fault before name value else inner_declaration_fault before name value) else pair_fault spaces before name value) ≡ None
+    → (if declares then (if outermost then declaration_fault (left_open spaces before) name value else inner_declaration_fault (left_open spaces before) name value) else pair_fault (left_open spaces before) name value) ≡ None
     → has_escapes value ≡ true
 escapes-by spaces before name value true true h = (escapes-kept before name value (declaration_rules before name value) h).0
 escapes-by spaces before name value true false h = (escapes-kept before name value ((true, rule.InnerNamespace) ∷ []) h).0
 escapes-by spaces before name value false outermost h = (escapes-kept before name value (pair_rules spaces before name value) h).0
 
-pub pair-escapes : (spaces : List Space) (before : List (List ℕ)) (name value : List ℕ) → attribute_fault spaces before name value ≡ None → has_escapes value ≡ true
+pub pair-escapes : (spaces : List Space) (before : List (List ℕ)) (name value : List ℕ) → attribute_fault (left_open spaces before) name value ≡ None → has_escapes value ≡ true
 pair-escapes spaces before name value h =
     escapes-by spaces before name value (is_declaration name) (length (open_elements before) == 1) h
 
 pair-by : (spaces : List Space) (before : List (List ℕ)) (name value : List ℕ) (declares : Bool) → is_declaration name ≡ declares
-    → (if declares then inner_declaration_fault before name value else pair_fault spaces before name value) ≡ None → is_declaration name ≡ false
+    → (if declares then inner_declaration_fault (left_open spaces before) name value else pair_fault (left_open spaces before) name value) ≡ None → is_declaration name ≡ false
 pair-by spaces before name value false e h = e
 pair-by spaces before name value true e h =
     let more : List (Bool × LineRule) = (true, rule.InnerNamespace) ∷ [] in
-    absurd (true≢false (head-none true rule.InnerNamespace [] (escapes-kept before name value more h).1).0)
+    absurd (true≢false (first-kept true rule.InnerNamespace [] (escapes-kept before name value more h).1).0)
 
-inner-pair : (spaces : List Space) (before : List (List ℕ)) (name value : List ℕ) → 2 ≤ length (open_elements before) → attribute_fault spaces before name value ≡ None → is_declaration name ≡ false
+inner-pair : (spaces : List Space) (before : List (List ℕ)) (name value : List ℕ) → 2 ≤ length (open_elements before) → attribute_fault (left_open spaces before) name value ≡ None → is_declaration name ≡ false
 inner-pair spaces before name value deep h =
     let inner : (length (open_elements before) == 1) ≡ false = ne_eqb (length (open_elements before)) 1 (λ (e : length (open_elements before) ≡ 1). omega (arith, deep, e)) in
     pair-by spaces before name value (is_declaration name) refl
-    (sym (ap (λ b. if is_declaration name then (if b then declaration_fault before name value else inner_declaration_fault before name value) else pair_fault spaces before name value) inner) ∙ h)
+    (sym (ap (λ b. if is_declaration name then (if b then declaration_fault (left_open spaces before) name value else inner_declaration_fault (left_open spaces before) name value) else pair_fault (left_open spaces before) name value) inner) ∙ h)
 
 -- further lines, the nearest first
 abbrev past : List (List ℕ) → List (List ℕ) → List (List ℕ)
@@ -119,7 +114,7 @@ attributes-inner spaces [] before more named deep h = tt
 attributes-inner spaces (a ∷ attributes) before more named deep h =
     let said = tag_of-attribute a.name a.value named.0 in
     let both = fault_behind-parts spaces before (attribute_bytes a) (map attribute_bytes attributes ++ more) h in
-    let kept : attribute_fault spaces before a.name a.value ≡ None = sym (ap (said_fault spaces before) said) ∙ (line_fault-parts spaces before (attribute_bytes a) both.0).1 in
+    let kept : attribute_fault (left_open spaces before) a.name a.value ≡ None = sym (ap (said_fault (left_open spaces before)) said) ∙ (line_fault-parts spaces before (attribute_bytes a) both.0).1 in
     let still : length (open_elements (attribute_bytes a ∷ before)) ≡ length (open_elements before) = ap (λ t. length (opened (length before) t (open_elements before))) said in
     (inner-pair spaces before a.name a.value deep kept, attributes-inner spaces attributes (attribute_bytes a ∷ before) more named.1 (omega (arith, deep, still)) both.1)
 

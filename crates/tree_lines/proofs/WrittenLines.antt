@@ -12,25 +12,27 @@ use Rattle.tree_lines.specs.Texts.{is_line, meant, unescaped_behind, size_of}
 use Rattle.tree_lines.specs.Tags.{Tag, tag_of, is_declaration, declared_prefix}
 use Rattle.tree_lines.specs.Tags as tag
 use Rattle.tree_lines.specs.Before.{open_elements, has_element, takes_attribute, text_size, begins_text, node_count}
-use Rattle.tree_lines.specs.Faults.{is_nothing, declares_already, has_already, is_innermost, tag_fault, said_fault, line_fault, declaration_fault, inner_declaration_fault, pair_fault}
+use Rattle.tree_lines.specs.LeftOpen.{declares_already, has_already, left_open}
+use Rattle.tree_lines.specs.Faults.{is_nothing, is_innermost, tag_fault, said_fault, line_fault, declaration_fault, inner_declaration_fault, pair_fault}
 use Rattle.tree_lines.specs.Given.{IsShort}
 use Rattle.tree_lines.specs.Canonical.{declaring_name, text_line, comment_line, declaration_line}
 use Rattle.tree_lines.specs.Writable.{IsText, IsPrefix}
 use Rattle.tree_lines.proofs.WrittenTexts.{written_text, has_escapes-written, meant-written, is_line-written}
-use Rattle.tree_lines.proofs.WrittenNames.{tag_of-attribute, is_name-declaring, is_declaration-declaring, is_line-declaring, is_line-begin, is_line-finish, is_line-text, is_line-comment, is_line-attribute}
+use Rattle.tree_lines.proofs.Parts.{tag_of-attribute}
+use Rattle.tree_lines.proofs.WrittenNames.{is_name-declaring, is_declaration-declaring, is_line-declaring, is_line-begin, is_line-finish, is_line-text, is_line-comment, is_line-attribute}
 
 -- a rule that is kept
 kept : {broken : Bool} {later : Option LineRule} (at : LineRule) → broken ≡ false → later ≡ None → (if broken then Some at else later) ≡ None
 kept {later = later} at e h = ap (λ b. if b then Some at else later) e ∙ h
 
 line_fault-said : (spaces : List Space) (before : List (List ℕ)) (line : List ℕ) (t : Tag) → is_line line ≡ true → tag_of line ≡ Some t
-    → tag_fault spaces before t ≡ None → line_fault spaces before line ≡ None
+    → tag_fault (left_open spaces before) t ≡ None → line_fault (left_open spaces before) line ≡ None
 line_fault-said spaces before line t good said h =
-    ap (λ b. if b then said_fault spaces before (tag_of line) else Some rule.BadLine) good ∙ ap (said_fault spaces before) said ∙ h
+    ap (λ b. if b then said_fault (left_open spaces before) (tag_of line) else Some rule.BadLine) good ∙ ap (said_fault (left_open spaces before)) said ∙ h
 
 pub line_fault-begin : (spaces : List Space) (before : List (List ℕ)) (name : List ℕ) → is_name name ≡ true → is_line name ≡ true
     → (has_element before && is_nothing (open_elements before)) ≡ false → length (open_elements before) < 120 → node_count before < 1000000
-    → is_some (element_uri spaces (prefix_of name)) ≡ true → line_fault spaces before (40 ∷ name) ≡ None
+    → is_some (element_uri spaces (prefix_of name)) ≡ true → line_fault (left_open spaces before) (40 ∷ name) ≡ None
 line_fault-begin spaces before name named good one shallow few bound =
     line_fault-said spaces before (40 ∷ name) (tag.Begin name) (is_line-begin name good) refl
     (kept rule.BadName (not_from_true (is_name name) named)
@@ -39,12 +41,12 @@ line_fault-begin spaces before name named good one shallow few bound =
     (kept rule.TooManyNodes (lt-leb 1000000 (node_count before) few) (kept rule.UnboundPrefix (not_from_true (is_some (element_uri spaces (prefix_of name))) bound) refl)))))
 
 pub line_fault-finish : (spaces : List Space) (before : List (List ℕ)) (name : List ℕ) → is_name name ≡ true → is_line name ≡ true
-    → is_innermost (open_elements before) name ≡ true → line_fault spaces before (41 ∷ name) ≡ None
+    → is_innermost (open_elements before) name ≡ true → line_fault (left_open spaces before) (41 ∷ name) ≡ None
 line_fault-finish spaces before name named good innermost =
     line_fault-said spaces before (41 ∷ name) (tag.Finish name) (is_line-finish name good) refl
     (kept rule.BadName (not_from_true (is_name name) named) (kept rule.WrongClose (not_from_true (is_innermost (open_elements before) name) innermost) refl))
 
-pub line_fault-comment : (spaces : List Space) (before : List (List ℕ)) (t : List ℕ) → IsText t → node_count before < 1000000 → line_fault spaces before (comment_line t) ≡ None
+pub line_fault-comment : (spaces : List Space) (before : List (List ℕ)) (t : List ℕ) → IsText t → node_count before < 1000000 → line_fault (left_open spaces before) (comment_line t) ≡ None
 line_fault-comment spaces before t good few =
     line_fault-said spaces before (comment_line t) (tag.Comment (written_text t)) (is_line-comment (written_text t) (is_line-written t good)) refl
     (kept rule.BadEscape (not_from_true _ (has_escapes-written t good)) (kept rule.TooManyNodes (lt-leb 1000000 (node_count before) few) refl))
@@ -53,7 +55,7 @@ size_of-written : (t : List ℕ) → IsText t → size_of (meant (written_text t
 size_of-written t good = ap size_of (meant-written t good)
 
 pub line_fault-text : (spaces : List Space) (before : List (List ℕ)) (t : List ℕ) → IsText t → IsShort t → is_nothing (open_elements before) ≡ false
-    → text_size before ≡ 0 → node_count before < 1000000 → line_fault spaces before (text_line t) ≡ None
+    → text_size before ≡ 0 → node_count before < 1000000 → line_fault (left_open spaces before) (text_line t) ≡ None
 line_fault-text spaces before t good short inside first few =
     line_fault-said spaces before (text_line t) (tag.Text (written_text t)) (is_line-text (written_text t) (is_line-written t good)) refl
     (kept rule.BadLine inside
@@ -74,11 +76,11 @@ begins_text-written size t first good some =
 -- an attribute that declares no namespace
 pub line_fault-pair : (spaces : List Space) (before : List (List ℕ)) (name t : List ℕ) → is_name name ≡ true → is_line name ≡ true → is_declaration name ≡ false
     → is_some (attribute_uri spaces (prefix_of name)) ≡ true → IsText t → IsShort t → takes_attribute before ≡ true → has_already spaces before name ≡ false
-    → line_fault spaces before (65 ∷ (name ++ 32 ∷ written_text t)) ≡ None
+    → line_fault (left_open spaces before) (65 ∷ (name ++ 32 ∷ written_text t)) ≡ None
 line_fault-pair spaces before name t named good pair bound text short takes fresh =
     let value : List ℕ = written_text t in
     line_fault-said spaces before (65 ∷ (name ++ 32 ∷ value)) (tag.Attribute name value) (is_line-attribute name value good (is_line-written t text)) (tag_of-attribute name value named)
-    (ap (λ b. if b then (if length (open_elements before) == 1 then declaration_fault before name value else inner_declaration_fault before name value) else pair_fault spaces before name value) pair
+    (ap (λ b. if b then (if length (open_elements before) == 1 then declaration_fault (left_open spaces before) name value else inner_declaration_fault (left_open spaces before) name value) else pair_fault (left_open spaces before) name value) pair
     ∙ kept rule.BadLine (not_from_true (takes_attribute before) takes)
     (kept rule.BadName (not_from_true (is_name name) named)
     (kept rule.BadEscape (not_from_true _ (has_escapes-written t text))
@@ -106,7 +108,7 @@ bound_prefix (b ∷ bs) uri h utf8 good =
 
 pub line_fault-declaration : (spaces : List Space) (before : List (List ℕ)) (space : Space) → IsPrefix space.prefix space.uri → is_utf8 space.uri ≡ true → IsText (chars space.uri)
     → takes_attribute before ≡ true → length (open_elements before) ≡ 1 → declares_already before (declaring_name space.prefix) ≡ false
-    → line_fault spaces before (declaration_line space) ≡ None
+    → line_fault (left_open spaces before) (declaration_line space) ≡ None
 line_fault-declaration spaces before space prefix utf8 text takes outermost fresh =
     let name : List ℕ = declaring_name space.prefix in
     let value : List ℕ = written_text (chars space.uri) in
@@ -114,9 +116,9 @@ line_fault-declaration spaces before space prefix utf8 text takes outermost fres
     let own : (length (open_elements before) == 1) ≡ true = eq-eqb (length (open_elements before)) 1 outermost in
     line_fault-said spaces before (declaration_line space) (tag.Attribute name value)
     (is_line-attribute name value (is_line-declaring space.prefix space.uri prefix) (is_line-written (chars space.uri) text)) (tag_of-attribute name value named)
-    (ap (λ b. if b then (if length (open_elements before) == 1 then declaration_fault before name value else inner_declaration_fault before name value) else pair_fault spaces before name value)
+    (ap (λ b. if b then (if length (open_elements before) == 1 then declaration_fault (left_open spaces before) name value else inner_declaration_fault (left_open spaces before) name value) else pair_fault (left_open spaces before) name value)
     (is_declaration-declaring space.prefix)
-    ∙ ap (λ b. if b then declaration_fault before name value else inner_declaration_fault before name value) own
+    ∙ ap (λ b. if b then declaration_fault (left_open spaces before) name value else inner_declaration_fault (left_open spaces before) name value) own
     ∙ kept rule.BadLine (not_from_true (takes_attribute before) takes)
     (kept rule.BadName (not_from_true (is_name name) named)
     (kept rule.BadEscape (not_from_true _ (has_escapes-written (chars space.uri) text)) (kept rule.DuplicateAttribute fresh (kept rule.UnboundPrefix (bound_prefix space.prefix space.uri prefix utf8 text) refl)))))

@@ -7,21 +7,11 @@ use Rattle.serna_kinds.specs.declared.cells.NameId.{NameId}
 use Rattle.serna_kinds.specs.Names.{NameParts}
 use Rattle.serna_kinds.specs.Qualified.{is_local_name, parted, prefix_of, is_name}
 use Rattle.tree_lines.specs.Texts.{is_line}
-use Rattle.tree_lines.specs.Tags.{Tag, tag_of, xmlns, is_declaration, declared_prefix}
-use Rattle.tree_lines.specs.Tags as tag
+use Rattle.tree_lines.specs.Tags.{xmlns, is_declaration, declared_prefix}
 use Rattle.tree_lines.specs.Canonical.{spelled, spelling_of, declaring_name}
 use Rattle.tree_lines.specs.Writable.{IsPrefix}
-use Rattle.tree_lines.proofs.Parts.{parted-at, name-lacks}
+use Rattle.tree_lines.proofs.Parts.{parted-at}
 use Rattle.tree_lines.proofs.WrittenTexts.{is_line-append}
-
--- no name has a space
-pub parted-name : (name value : List ℕ) → is_name name ≡ true → parted 32 (name ++ 32 ∷ value) ≡ Some (name, value)
-parted-name name value h = parted-at 32 name value (name-lacks 32 name refl refl h)
-
--- so an attribute's name and value stand on both sides of the first space
-pub tag_of-attribute : (name value : List ℕ) → is_name name ≡ true → tag_of (65 ∷ (name ++ 32 ∷ value)) ≡ Some (tag.Attribute name value)
-tag_of-attribute name value h =
-    ap (λ (o : Option (List ℕ × List ℕ)). elim o [ None ↦ None | Some p ↦ Some (tag.Attribute p.0 p.1) ]) (parted-name name value h)
 
 -- the name that declares a prefix
 parted-declaring : (prefix : List ℕ) → parted 58 (xmlns ++ 58 ∷ prefix) ≡ Some (xmlns, prefix)

@@ -4,6 +4,7 @@ use Rattle.std.specs.Prelude.{◌&&◌, ◌||◌, not, bytes_eq, is_some, slice_
 use Rattle.std.specs.List.{AllByRecursion, list_any}
 use Rattle.std.specs.Str.{chars}
 use Rattle.std.proofs.lemmas.Bool.{and_parts, and_left, and_right, or_from, not_from_true, false_from_ne_true}
+use Rattle.std.proofs.lemmas.Cmp.{nat_list_eq_equiv}
 use Rattle.std.proofs.lemmas.Slice.Eq.{bytes_eq-Decides}
 use Rattle.serna_kinds.specs.declared.cells.NameId.{NameId}
 use Rattle.serna_kinds.specs.declared.cells.AttrPair.{AttrPair}
@@ -13,17 +14,20 @@ use Rattle.tree_lines.specs.Texts.{is_line}
 use Rattle.tree_lines.specs.Tags.{Tag, tag_of, is_declaration, declared_prefix}
 use Rattle.tree_lines.specs.Tags as tag
 use Rattle.tree_lines.specs.Before.{opened, open_elements, is_begin, has_element, takes_attribute_behind, takes_attribute, attributes_behind, attribute_names, size_behind, text_size, nodes_at, node_count}
-use Rattle.tree_lines.specs.Faults.{declares_already, has_already, line_fault, or_later, fault_behind}
+use Rattle.tree_lines.specs.LeftOpen.{declares_already, is_same_attribute, has_already, left_open}
+use Rattle.tree_lines.specs.Faults.{line_fault, or_later, fault_behind}
 use Rattle.tree_lines.specs.Given.{IsShort}
-use Rattle.tree_lines.specs.Tokens.{AreApart}
+use Rattle.serna_kinds.specs.Apart.{AreApart}
 use Rattle.tree_lines.specs.Canonical.{spelled, spelling_of, declaring_name, attribute_line, declaration_line}
 use Rattle.tree_lines.specs.Writable.{IsAttributeName, IsPair, AreSpaces}
 use Rattle.tree_lines.proofs.WrittenTexts.{written_text}
-use Rattle.tree_lines.proofs.WrittenNames.{tag_of-attribute, is_name-declaring, is_declaration-declaring, declared_prefix-declaring, spelling_of-stored}
+use Rattle.tree_lines.proofs.Parts.{tag_of-attribute}
+use Rattle.tree_lines.proofs.WrittenNames.{is_name-declaring, is_declaration-declaring, declared_prefix-declaring, spelling_of-stored}
+use Rattle.tree_lines.proofs.SameNames.{bound_same}
 use Rattle.tree_lines.proofs.WrittenLines.{line_fault-pair, line_fault-declaration}
 
 -- a line that breaks no rule
-pub passes-line : (spaces : List Space) (before : List (List ℕ)) (line : List ℕ) (more : List (List ℕ)) → line_fault spaces before line ≡ None
+pub passes-line : (spaces : List Space) (before : List (List ℕ)) (line : List ℕ) (more : List (List ℕ)) → line_fault (left_open spaces before) line ≡ None
     → fault_behind spaces before (line ∷ more) ≡ fault_behind spaces (line ∷ before) more
 passes-line spaces before line more e = ap (λ o. or_later (length before) o (fault_behind spaces (line ∷ before) more)) e
 
@@ -44,7 +48,7 @@ leaves-none spaces before size takes =
 
 -- a line of an attribute in front of others
 leaves-line : (spaces : List Space) (before : List (List ℕ)) (line name value : List ℕ) (lines : List (List ℕ)) → tag_of line ≡ Some (tag.Attribute name value)
-    → line_fault spaces before line ≡ None → Leaves spaces (line ∷ before) lines → Leaves spaces before (line ∷ lines)
+    → line_fault (left_open spaces before) line ≡ None → Leaves spaces (line ∷ before) lines → Leaves spaces before (line ∷ lines)
 leaves-line spaces before line name value lines said good rest =
     record {
       after = rest.after;
@@ -83,15 +87,24 @@ apart_as_read names spaces one other h g apart =
     ap (λ x. is_same_expanded x (attribute_name spaces (spelling_of names other))) (read_pair_name names spaces one h)
     ∙ ap (λ x. is_same_expanded h.parts x) (read_pair_name names spaces other g) ∙ sym told ∙ apart
 
--- no attribute behind which these stand has the same expanded name
+not_the_same : (names : List NameParts) (spaces : List Space) (one other : NameId) → IsAttributeName names spaces one → IsAttributeName names spaces other
+    → are_same names one other ≡ false → is_same_attribute spaces (spelling_of names other) (spelling_of names one) ≡ false
+not_the_same names spaces one other h g apart =
+    let a = attribute_name spaces (spelling_of names other) in
+    let b = attribute_name spaces (spelling_of names one) in
+    let turned : is_same_expanded a b ≡ is_same_expanded b a = λ i. nat_list_eq_equiv.symm a.uri b.uri i && nat_list_eq_equiv.symm a.local b.local i in
+    bound_same spaces (spelling_of names other) (spelling_of names one) (pair_name names spaces other g).bound (pair_name names spaces one h).bound
+    ∙ turned ∙ apart_as_read names spaces one other h g apart
+
+-- none of the attributes behind which these stand is the same
 abbrev pub AreFresh : List NameParts → List Space → List (List ℕ) → List AttrPair → Type 0
 AreFresh names spaces before pairs = AllByRecursion (λ (pair : AttrPair). has_already spaces before (spelling_of names pair.name) ≡ false) pairs
 
 has_already-line : (spaces : List Space) (before : List (List ℕ)) (line name value other : List ℕ) → tag_of line ≡ Some (tag.Attribute name value)
-    → (not (is_declaration name) && is_same_expanded (attribute_name spaces name) (attribute_name spaces other)) ≡ false
+    → (not (is_declaration name) && is_same_attribute spaces other name) ≡ false
     → has_already spaces before other ≡ false → has_already spaces (line ∷ before) other ≡ false
 has_already-line spaces before line name value other said apart fresh =
-    let test : List ℕ → Bool = λ n. not (is_declaration n) && is_same_expanded (attribute_name spaces n) (attribute_name spaces other) in
+    let test : List ℕ → Bool = λ n. not (is_declaration n) && is_same_attribute spaces other n in
     ap (λ t. list_any test (attributes_behind t (attribute_names before))) said ∙ or_from (test name) (list_any test (attribute_names before)) apart fresh
 
 fresh-line : (names : List NameParts) (spaces : List Space) (before : List (List ℕ)) (pair : AttrPair) → IsAttributeName names spaces pair.name
@@ -102,7 +115,7 @@ fresh-line names spaces before pair own [] good apart fresh = tt
 fresh-line names spaces before pair own (q ∷ pairs) good apart fresh =
     let name : List ℕ = spelling_of names pair.name in
     let said = tag_of-attribute name (written_text pair.value) (pair_name names spaces pair.name own).named in
-    let differs = and_right (not (is_declaration name)) _ (apart_as_read names spaces pair.name q.name own good.0.0 apart.0) in (
+    let differs = and_right (not (is_declaration name)) _ (not_the_same names spaces pair.name q.name own good.0.0 apart.0) in (
       has_already-line spaces before (attribute_line names pair) name (written_text pair.value) (spelling_of names q.name) said differs fresh.0,
       fresh-line names spaces before pair own pairs good.1 apart.1 fresh.1,
     )

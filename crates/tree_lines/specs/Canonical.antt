@@ -58,7 +58,7 @@ abbrev pub canonical_lines : List NameParts → Given → List (List ℕ)
 canonical_lines names given.end = []
 canonical_lines names (given.text t rest) = text_line t ∷ canonical_lines names rest
 canonical_lines names (given.comment t rest) = comment_line t ∷ canonical_lines names rest
-canonical_lines names (given.element name attributes content rest) =
+canonical_lines names (given.element name attributes line content rest) =
     begin_lines names name attributes ++ (canonical_lines names content ++ (end_line names name ∷ canonical_lines names rest))
 
 -- `Axmlns URI` for the default namespace, and `Axmlns:PREFIX URI`
@@ -79,7 +79,7 @@ abbrev pub document_lines : List NameParts → List Space → Given → List (Li
 document_lines names spaces given.end = []
 document_lines names spaces (given.text t rest) = text_line t ∷ document_lines names spaces rest
 document_lines names spaces (given.comment t rest) = comment_line t ∷ document_lines names spaces rest
-document_lines names spaces (given.element name attributes content rest) =
+document_lines names spaces (given.element name attributes line content rest) =
     outermost_lines names spaces name attributes ++ (canonical_lines names content ++ (end_line names name ∷ canonical_lines names rest))
 
 -- a line with its LF, and lines one after another

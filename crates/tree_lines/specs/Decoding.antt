@@ -1,5 +1,5 @@
 -- What a text with escapes means while it is read, character by character (this project's own).
-use Rattle.std.specs.Prelude.{◌≡◌, ℕ, ◌&&◌, Bool, List, ◌++◌}
+use Rattle.std.specs.Prelude.{ℕ, ◌&&◌, Bool, List, ◌++◌}
 use Rattle.tree_lines.specs.Texts.{are_escaped, unescaped_behind}
 
 -- the characters so far, whether a backslash waits for its escape, and whether each escape so far is right

@@ -1,7 +1,6 @@
 -- Worked examples of the definitions: lines with their first faults, and documents with what they say.
-use Rattle.std.specs.Prelude.{◌≡◌, ℕ, List, [], ◌∷◌, Option, Some, None, codes}
+use Rattle.std.specs.Prelude.{◌≡◌, ℕ, List, [], ◌∷◌, Some, None, codes}
 use Rattle.tree_lines.specs.declared.rules.LineRule.{LineRule}
-use Rattle.tree_lines.specs.declared.rules.LineRule.TheVariants as rule
 use Rattle.tree_lines.specs.Faults.{fault_of}
 
 -- the lines break this rule first, at the line of this place

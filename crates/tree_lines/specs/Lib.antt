@@ -3,6 +3,7 @@ pub mod Tags
 pub mod Written
 pub mod Declarations
 pub mod Before
+pub mod LeftOpen
 pub mod Faults
 pub mod Given
 pub mod Documents

@@ -1,6 +1,6 @@
 -- What a line says, by its first byte (this project's own): `(NAME` begins an element, `ANAME VALUE` is an attribute of it, `-TEXT` is text,
 -- `CTEXT` a comment, and `)NAME` ends the innermost element.
-use Rattle.std.specs.Prelude.{ℕ, ◌==◌, ◌||◌, Bool, false, true, List, [], ◌∷◌, Option, Some, None, bytes_eq, codes, if◌then◌else◌}
+use Rattle.std.specs.Prelude.{ℕ, ◌==◌, ◌||◌, Bool, List, [], ◌∷◌, Option, Some, None, bytes_eq, codes, if◌then◌else◌}
 use Rattle.serna_kinds.specs.Qualified.{parted, prefix_of, local_of}
 
 pub data Tag : Type 0 where

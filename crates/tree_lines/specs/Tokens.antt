@@ -1,8 +1,9 @@
 -- What the lines of a document say one by one, and the table that their names make.
-use Rattle.std.specs.Prelude.{◌≡◌, ℕ, List, [], ◌∷◌, ◌++◌, IsSome, false, slice_get, fold, Option, Some, None, if◌then◌else◌}
+use Rattle.std.specs.Prelude.{ℕ, List, [], ◌∷◌, ◌++◌, IsSome, slice_get, fold, Option, Some, None, if◌then◌else◌}
 use Rattle.std.specs.List.{AllByRecursion}
 use Rattle.serna_kinds.specs.declared.cells.AttrPair.{AttrPair}
-use Rattle.serna_kinds.specs.Names.{NameParts, Space, id_of, with_name, are_same}
+use Rattle.serna_kinds.specs.Apart.{AreApart}
+use Rattle.serna_kinds.specs.Names.{NameParts, Space, id_of, with_name}
 use Rattle.serna_kinds.specs.Qualified.{element_name, attribute_name}
 use Rattle.tree_lines.specs.declared.tree.Line.{Line}
 use Rattle.tree_lines.specs.declared.tree.TreeItem.{TreeItem}
@@ -54,13 +55,6 @@ items_in names spaces [] = []
 items_in names spaces (line ∷ lines) =
     items_by names spaces line.number (tag_of line.bytes) (pairs_in names spaces lines) (items_in names spaces lines)
 
--- an item without the number of its line
-abbrev pub without_line : TreeItem → TreeItem
-without_line (item.Begin name attributes line) = item.Begin name attributes 0
-without_line (item.Text t) = item.Text t
-without_line (item.Comment t) = item.Comment t
-without_line item.Finish = item.Finish
-
 -- the name that a line has, if it begins an element or is an attribute that declares no namespace
 abbrev pub names_by : List Space → Option Tag → List NameParts
 names_by spaces None = []
@@ -82,12 +76,6 @@ with_names names more = fold with_name names more
 -- a table with the names of a document's lines
 abbrev pub names_with : List NameParts → List (List ℕ) → List NameParts
 names_with names lines = with_names names (line_names (spaces_in lines) lines)
-
--- the names are the table's, and no two of them have the same URI and local name
-abbrev pub AreApart : List NameParts → List AttrPair → Type 0
-AreApart names [] = Unit {0}
-AreApart names (pair ∷ pairs) =
-    IsSome (slice_get names pair.name.0) × AllByRecursion (λ (other : AttrPair). are_same names pair.name other.name ≡ false) pairs × AreApart names pairs
 
 -- an element's name is one of the table's, and so are those of its attributes, which are apart
 abbrev pub IsNamed : List NameParts → TreeItem → Type 0

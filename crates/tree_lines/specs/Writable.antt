@@ -1,9 +1,10 @@
 -- Which trees can be written so that they read back as the same tree.
-use Rattle.std.specs.Prelude.{◌≡◌, ◌≢◌, ℕ, ◌==◌, ◌&&◌, ◌||◌, not, Bool, true, false, List, [], ◌∷◌, ◌++◌, Some, slice_get, IsTrue, is_some, encode_utf8_all}
+use Rattle.std.specs.Prelude.{◌≡◌, ◌≢◌, ℕ, ◌==◌, ◌&&◌, ◌||◌, not, Bool, false, List, [], ◌∷◌, ◌++◌, Some, slice_get, IsTrue, is_some, encode_utf8_all}
 use Rattle.std.specs.List.{AllByRecursion, list_all, filter}
 use Rattle.std.specs.Str.{chars, is_utf8}
 use Rattle.serna_kinds.specs.declared.cells.NameId.{NameId}
 use Rattle.serna_kinds.specs.declared.cells.AttrPair.{AttrPair}
+use Rattle.serna_kinds.specs.Apart.{AreApart}
 use Rattle.serna_kinds.specs.Names.{NameParts, Space, Grows}
 use Rattle.serna_kinds.specs.Qualified.{prefix_of, is_local_name, is_name, element_uri, attribute_uri, element_name, attribute_name}
 use Rattle.tree_lines.specs.Texts.{is_allowed, is_line}
@@ -11,9 +12,8 @@ use Rattle.tree_lines.specs.Tags.{is_declaration}
 use Rattle.tree_lines.specs.Written.{Written, Attribute, written_lines}
 use Rattle.tree_lines.specs.Written as written
 use Rattle.tree_lines.specs.Documents.{IsDocument}
-use Rattle.tree_lines.specs.Given.{Given, IsWhole, spaces_of, given_of}
+use Rattle.tree_lines.specs.Given.{Given, without_lines, IsWhole, spaces_of, given_of}
 use Rattle.tree_lines.specs.Given as given
-use Rattle.tree_lines.specs.Tokens.{AreApart}
 use Rattle.tree_lines.specs.Canonical.{spelled, document_lines}
 
 -- characters that a line may have, LF and tabs, which are written by their escapes
@@ -48,7 +48,7 @@ abbrev pub AreNodes : List NameParts → List Space → Given → Type 0
 AreNodes names spaces given.end = Unit {0}
 AreNodes names spaces (given.text t rest) = IsText t × AreNodes names spaces rest
 AreNodes names spaces (given.comment t rest) = IsText t × AreNodes names spaces rest
-AreNodes names spaces (given.element name attributes content rest) =
+AreNodes names spaces (given.element name attributes line content rest) =
     IsElementName names spaces name × AllByRecursion (IsPair names spaces) attributes × AreApart names attributes
     × AreNodes names spaces content × AreNodes names spaces rest
 
@@ -69,14 +69,14 @@ pub record IsWritable (names : List NameParts) (spaces : List Space) (tree : Giv
   pub nodes : AreNodes names spaces tree
   pub declared : AreSpaces spaces
 
--- the lines that are written of the tree are those of a document that declares the same, and the document's tree is this one, in this
--- table and in each that grows from it
+-- the lines that are written of the tree are those of a document that declares the same, and the document's tree is this one but for the
+-- numbers of the lines, in this table and in each that grows from it, and whatever these numbers are
 pub record ReadsBack (names : List NameParts) (spaces : List Space) (tree : Given) : Type 0 where
   pub document : Written
   pub built : IsDocument document
   pub lines : document_lines names spaces tree ≡ written_lines document
   pub declared : spaces_of document ≡ spaces
-  pub same : (table : List NameParts) → Grows names table → given_of table document ≡ tree
+  pub same : (table : List NameParts) → Grows names table → (numbers : List ℕ) → without_lines (given_of table numbers document) ≡ without_lines tree
 
 -- a text line in front of what follows it: neighbouring text lines make one, and an empty one makes none
 abbrev pub with_line : List ℕ → Written → Written

@@ -1,5 +1,5 @@
 //! A text that is being written.
-ghost use Rattle.std.specs.Prelude.{◌≡◌, [], ◌∷◌, ◌++◌, OnOk, OnErr};
+ghost use Rattle.std.specs.Prelude.{◌≡◌, [], ◌∷◌, ◌++◌, IfOk, OnOk, OnErr};
 ghost use Rattle.std.specs.Str.{chars};
 ghost use Rattle.tree_lines.specs.Texts.{size_of};
 
@@ -55,9 +55,9 @@ impl Draft {
         self.text.len()
     }
 
-    // The text as it is written. Takes no memory.
-    pub(crate) fn into_chars(self) -> Chars
-        ensures { result ≡ self }
+    // The text as it is written.
+    pub(crate) fn into_chars(self) -> Result<Chars, NoMemory>
+        ensures { IfOk result (λ text. text ≡ self) }
     {
         let Draft { text } = self;
         Chars::from_string(text)

@@ -11,12 +11,14 @@ use std::alloc::Global;
 use std::hash::{Hash, Hasher};
 use std::marker::Model;
 
-// Of an attribute that declares a namespace the prefix that it declares, of any other its URI and local name.
+// Of an attribute that declares a namespace the prefix that it declares, of any other its URI and local name, and of one whose
+// prefix is not bound its name as it is written.
 #[derive(Drop)]
 pub(crate) struct AttributeKey {
     declares: bool,
+    is_bound: bool,
     uri: String,
-    local: String,
+    name: String,
 }
 
 impl Model for AttributeKey {
@@ -25,26 +27,28 @@ impl Model for AttributeKey {
 
     ghost Value = { Key };
 
-    ghost view = { λ k. record { declares = k.declares; uri = string_bytes k.uri; local = string_bytes k.local } };
+    ghost view = { λ k. record { declares = k.declares; is_bound = k.is_bound; uri = string_bytes k.uri; name = string_bytes k.name } };
 }
 
 impl AttributeKey {
     fn from_parts(
         alloc: Global,
         declares: bool,
+        is_bound: bool,
         uri: &str,
-        local: &str,
+        name: &str,
     ) -> Result<AttributeKey, NoMemory>
-        ensures { IfOk result (λ k. k ≡ key declares uri.now local.now) }
+        ensures { IfOk result (λ k. k ≡ key declares is_bound uri.now name.now) }
     {
         Ok(AttributeKey {
             declares,
+            is_bound,
             uri: String::from_str(alloc, uri)?,
-            local: String::from_str(alloc, local)?,
+            name: String::from_str(alloc, name)?,
         })
     }
 
-    // The key of an attribute by its name as it is written. A prefix that is not declared stands for no URI here.
+    // The key of an attribute by its name as it is written.
     pub(crate) fn from_name(
         alloc: Global,
         name: &str,
@@ -53,11 +57,13 @@ impl AttributeKey {
         ensures { IfOk result (λ k. k ≡ key_of spaces.now name.now) }
     {
         if is_declaration(name) {
-            return AttributeKey::from_parts(alloc, true, "", declared_prefix(name));
+            return AttributeKey::from_parts(alloc, true, false, "", declared_prefix(name));
         }
         let WrittenName { prefix, local } = WrittenName::parts(name);
-        let uri = spaces.attribute_uri(prefix).unwrap_or("");
-        AttributeKey::from_parts(alloc, false, uri, local)
+        match spaces.attribute_uri(prefix) {
+            Some(uri) => AttributeKey::from_parts(alloc, false, true, uri, local),
+            None => AttributeKey::from_parts(alloc, false, false, "", name),
+        }
     }
 }
 
@@ -67,7 +73,10 @@ impl PartialEq for AttributeKey {
     ghost laws = { Prim.search (comparing, rules) };
 
     fn eq(&self, other: &AttributeKey) -> bool {
-        self.declares == other.declares && self.uri == other.uri && self.local == other.local
+        self.declares == other.declares
+            && self.is_bound == other.is_bound
+            && self.uri == other.uri
+            && self.name == other.name
     }
 }
 
@@ -76,13 +85,14 @@ impl Eq for AttributeKey {
 }
 
 impl Hash for AttributeKey {
-    ghost hash_input = { λ k. fed.bool k.declares ++ fed.str k.uri ++ fed.str k.local };
+    ghost hash_input = { λ k. fed.bool k.declares ++ fed.bool k.is_bound ++ fed.str k.uri ++ fed.str k.name };
 
     ghost respects_eq = { Prim.search (hashing, rules) };
 
     fn hash<H: Hasher>(&self, state: &mut H) {
         self.declares.hash(state);
+        self.is_bound.hash(state);
         self.uri.hash(state);
-        self.local.hash(state);
+        self.name.hash(state);
     }
 }

@@ -7,8 +7,8 @@ ghost use Rattle.tree_lines.specs.declared.tree.Line.{Line};
 ghost use Rattle.tree_lines.specs.Written.{Written, written_lines};
 ghost use Rattle.tree_lines.specs.Documents.{AreParted, IsDocument};
 ghost use Rattle.tree_lines.specs.Faults.{fault_of, bytes_of};
-ghost use Rattle.tree_lines.specs.Given.{Given, element, IsWhole, items_of, spaces_of, given_of};
-ghost use Rattle.tree_lines.specs.Tokens.{items_in, names_with, without_line, AreNamed};
+ghost use Rattle.tree_lines.specs.Given.{Given, element, without_lines, IsWhole, items_of, spaces_of, given_of, numbers_of};
+ghost use Rattle.tree_lines.specs.Tokens.{items_in, names_with, AreNamed};
 ghost use Rattle.tree_lines.specs.Canonical.{escaped, begin_lines, end_line, line_text, text_of_lines, canonical_lines, document_lines};
 ghost use Rattle.tree_lines.specs.Writable.{IsWritable, ReadsBack, rewritten};
 ghost use Rattle.tree_lines.specs.declared.rules.LineRule.TheVariants as rule;
@@ -23,25 +23,31 @@ pub fn faultless_lines_are_a_document()
 /// What the lines of a document say one by one is its tree.
 pub fn lines_say_the_document()
     ensures items { (names : List NameParts) (lines : List Line) (document : Written) → AreParted document → bytes_of lines ≡ written_lines document
-        → map without_line (items_in names (spaces_of document) lines) ≡ items_of (given_of names document) }
+        → items_in names (spaces_of document) lines ≡ items_of (given_of names (numbers_of lines) document) }
+{}
+
+/// Which numbers the lines of a document have shows in nothing of its tree but in these numbers.
+pub fn numbers_are_of_lines_alone()
+    ensures { (names : List NameParts) (numbers others : List ℕ) (document : Written)
+        → without_lines (given_of names numbers document) ≡ without_lines (given_of names others document) }
 {}
 
 /// The tree of a document is one element with comments beside it, within the limits of a section.
 pub fn documents_are_whole()
-    ensures { (names : List NameParts) (document : Written) → IsDocument document → IsWhole (given_of names document) }
+    ensures { (names : List NameParts) (numbers : List ℕ) (document : Written) → IsDocument document → IsWhole (given_of names numbers document) }
 {}
 
 /// The names of a document's tree are those of its lines, and the attributes of an element are apart.
 pub fn documents_are_named()
-    ensures { (names table : List NameParts) (document : Written) → IsDocument document → Grows (names_with names (written_lines document)) table
-        → AreNamed table (items_of (given_of table document)) }
+    ensures { (names table : List NameParts) (numbers : List ℕ) (document : Written) → IsDocument document → Grows (names_with names (written_lines document)) table
+        → AreNamed table (items_of (given_of table numbers document)) }
 {}
 
 /// The lines of an element are that of its beginning with its attributes, those of its content and that of its end, and then
 /// comes what follows it: as `TreeWriter` writes them one after another.
 pub fn elements_are_written_in_parts()
-    ensures { (names : List NameParts) (name : NameId) (attributes : List AttrPair) (content rest : Given)
-        → text_of_lines (canonical_lines names (element name attributes content rest))
+    ensures { (names : List NameParts) (name : NameId) (attributes : List AttrPair) (line : ℕ) (content rest : Given)
+        → text_of_lines (canonical_lines names (element name attributes line content rest))
         ≡ text_of_lines (begin_lines names name attributes)
         ++ (text_of_lines (canonical_lines names content) ++ (line_text (end_line names name) ++ text_of_lines (canonical_lines names rest))) }
 {}
@@ -54,8 +60,9 @@ pub fn escapes_keep_texts_apart()
 
 /// What is written of a tree reads back as the same tree.
 ///
-/// Its canonical lines are those of a document, whose tree is this one, with the same declarations. By the clauses `only` and
-/// `given` of `read_tree` these lines are read, and what is read are this tree's items.
+/// Its canonical lines are those of a document, whose tree is this one but for the numbers of the lines, with the same
+/// declarations. By the clauses `only` and `given` of `read_tree` these lines are read, and what is read are this tree's items
+/// with the numbers of the new lines.
 pub fn writing_reads_back()
     ensures back { (names : List NameParts) (spaces : List Space) (tree : Given) → AreDistinct names → IsWritable names spaces tree → ReadsBack names spaces tree }
 
@@ -65,15 +72,15 @@ pub fn writing_reads_back()
 
 /// A tree that was read can be written so that it reads back.
 pub fn what_was_read_is_writable()
-    ensures { (names table : List NameParts) (document : Written) → IsDocument document → Grows (names_with names (written_lines document)) table
-        → IsWritable table (spaces_of document) (given_of table document) }
+    ensures { (names table : List NameParts) (numbers : List ℕ) (document : Written) → IsDocument document → Grows (names_with names (written_lines document)) table
+        → IsWritable table (spaces_of document) (given_of table numbers document) }
 {}
 
 /// What is written of a document's tree are its own lines, with neighbouring text lines made one, the empty ones left out, and
 /// the declarations in front of the other attributes: of canonical lines the very same lines.
 pub fn reading_writes_back()
-    ensures { (names table : List NameParts) (document : Written) → IsDocument document → Grows (names_with names (written_lines document)) table
-        → document_lines table (spaces_of document) (given_of table document) ≡ written_lines (rewritten document) }
+    ensures { (names table : List NameParts) (numbers : List ℕ) (document : Written) → IsDocument document → Grows (names_with names (written_lines document)) table
+        → document_lines table (spaces_of document) (given_of table numbers document) ≡ written_lines (rewritten document) }
 {}
 
 /// Worked examples of the definition of faults.
@@ -95,5 +102,8 @@ pub fn worked_faults()
     ensures declared_twice { Breaks (codes "(a" ∷ codes "Axmlns:p u" ∷ codes "Axmlns:p v" ∷ codes ")a" ∷ []) 2 rule.DuplicateAttribute }
     ensures unbound { Breaks (codes "(a:doc" ∷ codes "Ax" ∷ []) 0 rule.UnboundPrefix }
     ensures empty_uri { Breaks (codes "(p:a" ∷ codes "Axmlns:p " ∷ codes ")p:a" ∷ []) 1 rule.UnboundPrefix }
+    ensures unbound_twice { Breaks (codes "(a" ∷ codes "Ap:x 1" ∷ codes "Ap:x 2" ∷ codes ")a" ∷ []) 1 rule.UnboundPrefix }
+    ensures unbound_beside { Breaks (codes "(a" ∷ codes "Ax 1" ∷ codes "Ap:x 2" ∷ codes ")a" ∷ []) 2 rule.UnboundPrefix }
+    ensures xml_alone { IsFaultless (codes "(a" ∷ codes "Axmlns:xml u" ∷ codes "Axmlns:q u" ∷ codes "Axml:x 1" ∷ codes "Aq:x 2" ∷ codes ")a" ∷ []) }
     ensures inner { Breaks (codes "(a" ∷ codes "(b" ∷ codes "Axmlns:p u" ∷ codes ")b" ∷ codes ")a" ∷ []) 2 rule.InnerNamespace }
 {}

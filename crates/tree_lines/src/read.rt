@@ -7,10 +7,10 @@ ghost use Rattle.tree_lines.specs.Written.{Written, written_lines};
 ghost use Rattle.tree_lines.specs.Documents.{IsDocument};
 ghost use Rattle.tree_lines.specs.Declarations.{spaces_in};
 ghost use Rattle.tree_lines.specs.Tags.{tag_of};
-ghost use Rattle.tree_lines.specs.Given.{items_of, given_of};
-ghost use Rattle.tree_lines.specs.Faults.{number_at, bytes_of, first_fault};
-ghost use Rattle.tree_lines.specs.Reading.{line_rule, after, IsReading};
-ghost use Rattle.tree_lines.specs.Tokens.{names_by, with_names, items_in, names_with, without_line, AreNamed};
+ghost use Rattle.tree_lines.specs.Given.{items_of, given_of, numbers_of};
+ghost use Rattle.tree_lines.specs.Faults.{line_fault, number_at, bytes_of, first_fault};
+ghost use Rattle.tree_lines.specs.Reading.{held, after, IsReading};
+ghost use Rattle.tree_lines.specs.Tokens.{names_by, with_names, items_in, names_with, AreNamed};
 
 use crate::declarations::read_spaces;
 use crate::reader::{Reader, Stop};
@@ -36,10 +36,10 @@ fn read_line<'a>(
     reader: &mut Reader<'a>,
     names: &mut NameTable,
 ) -> Result<(), LineFault>
-    ensures none { OnOk result (line_rule reader.old line.now.bytes ≡ None) }
+    ensures none { OnOk result (line_fault (held reader.old) line.now.bytes ≡ None) }
     ensures read { OnOk result ((table : List NameParts) → Grows names.new table → reader.new ≡ after table place line.now.number reader.old (tag_of line.now.bytes)) }
     ensures names { OnOk result (names.new ≡ with_names names.old (names_by reader.old.spaces (tag_of line.now.bytes))) }
-    ensures refused { IfErr result (λ fault. (number : ℕ) (rule : LineRule) → fault ≡ line_fault.Refused number rule → (line.now.number ≡ number) × (line_rule reader.old line.now.bytes ≡ Some rule)) }
+    ensures refused { IfErr result (λ fault. (number : ℕ) (rule : LineRule) → fault ≡ line_fault.Refused number rule → (line.now.number ≡ number) × (line_fault (held reader.old) line.now.bytes ≡ Some rule)) }
     ensures grows { Grows names.old names.new }
 {
     match reader.next_line(alloc, place, line, names) {
@@ -102,8 +102,8 @@ pub fn read_tree(alloc: Global, lines: &[Line], names: &mut NameTable) -> Result
     // The items are those that the lines say one by one, with neighbouring texts joined, in this table and in each that grows from it.
     ensures items { IfOk result (λ tree. (table : List NameParts) → Grows names.new table → tree.items ≡ items_in table (spaces_in (bytes_of lines.now)) lines.now) }
 
-    // They are the items of the document's tree.
-    ensures given { IfOk result (λ tree. (table : List NameParts) → Grows names.new table → (document : Written) → IsDocument document → bytes_of lines.now ≡ written_lines document → map without_line tree.items ≡ items_of (given_of table document)) }
+    // They are the items of the document's tree, with the numbers of its lines.
+    ensures given { IfOk result (λ tree. (table : List NameParts) → Grows names.new table → (document : Written) → IsDocument document → bytes_of lines.now ≡ written_lines document → tree.items ≡ items_of (given_of table (numbers_of lines.now) document)) }
 
     // The namespaces are those that the outermost element declares.
     ensures spaces { IfOk result (λ tree. tree.spaces ≡ spaces_in (bytes_of lines.now)) }

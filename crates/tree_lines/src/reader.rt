@@ -1,20 +1,21 @@
 //! A reader of lines, one after another: the first rule that a line breaks, and what the reader holds behind the line.
 ghost use Rattle.std.specs.Prelude.{◌≡◌, false, ℕ, List, [], ◌∷◌, ◌++◌, ◌<◌, Some, None, not, nat_le, nat_lt, ◌&&◌, ◌+◌, length, is_some, map, IfOk, IfErr, OnOk};
 ghost use Rattle.std.specs.Option.{option_map};
+ghost use Rattle.serna_kinds.specs.Limits.{text_limit, node_limit};
 ghost use Rattle.serna_kinds.specs.Names.{NameParts, Grows, id_of, with_name};
-ghost use Rattle.serna_kinds.specs.Qualified.{element_name, attribute_name};
+ghost use Rattle.serna_kinds.specs.Qualified.{prefix_of, attribute_uri, element_name, attribute_name};
 ghost use Rattle.tree_lines.specs.declared.rules.LineRule.{LineRule};
 ghost use Rattle.tree_lines.specs.declared.reader.Stop.TheVariants as stop;
 ghost use Rattle.tree_lines.specs.declared.tree.TreeItem.{TreeItem};
 ghost use Rattle.tree_lines.specs.Texts.{has_escapes, meant, size_of};
 ghost use Rattle.tree_lines.specs.Tags.{tag_of};
 ghost use Rattle.tree_lines.specs.Tags as tag;
-ghost use Rattle.tree_lines.specs.Faults.{is_nothing};
+ghost use Rattle.tree_lines.specs.Faults.{is_nothing, begin_fault, declaration_fault, inner_declaration_fault, pair_fault, attribute_fault, text_fault, comment_fault, finish_fault, tag_fault, line_fault, end_fault};
 ghost use Rattle.tree_lines.specs.Given.{pair_for};
 ghost use Rattle.tree_lines.specs.Tokens.{names_by, with_names};
-ghost use Rattle.tree_lines.specs.Keys.{key_of};
+ghost use Rattle.tree_lines.specs.Keys.{declaration_key, pair_key, key_of};
 ghost use Rattle.tree_lines.specs.Kinds.{said};
-ghost use Rattle.tree_lines.specs.Reading.{Reading, no_reading, has_key, begin_rule, declaration_rule, inner_declaration_rule, pair_rule, attribute_rule, text_rule, comment_rule, finish_rule, tag_rule, line_rule, ended_begun, ended_text, ended, after_begin, after_attribute, after_text, after_comment, after_finish, after, end_rule, shown, begins, text_nodes, with_text};
+ghost use Rattle.tree_lines.specs.Reading.{Reading, no_reading, has_key, held, ended_begun, ended_text, ended, after_begin, after_attribute, after_text, after_comment, after_finish, after, shown, begins, text_nodes, with_text};
 
 use crate::draft::Draft;
 use crate::keys::AttributeKey;
@@ -79,6 +80,7 @@ pub(crate) struct Reader<'a> {
 impl<'a> Model for Reader<'a> {
     ghost use Rattle.std.specs.Prelude.{map, reverse, ◌≤◌};
     ghost use Rattle.tree_lines.specs.Texts.{size_of};
+    ghost use Rattle.serna_kinds.specs.Limits.{text_limit, node_limit};
     ghost use Rattle.tree_lines.specs.Before.{open_element};
     ghost use Rattle.tree_lines.specs.Reading.{Reading};
 
@@ -86,7 +88,7 @@ impl<'a> Model for Reader<'a> {
 
     ghost view = { λ r. record { spaces = r.spaces.now; opened = reverse (map (λ o. open_element o.place o.name.now) r.opened); has_begun = r.has_begun; items = r.items; begun = r.begun; pairs = r.pairs; keys = r.keys.keys; text = r.text; nodes = r.nodes } };
 
-    ghost invariant = { λ r. (r.nodes ≤ 1000000) × (size_of r.text ≤ 16384) };
+    ghost invariant = { λ r. (r.nodes ≤ node_limit) × (size_of r.text ≤ text_limit) };
 }
 
 // The number of an element's name as it is written. A prefix that is not declared stands for no URI here.
@@ -154,7 +156,7 @@ impl<'a> Reader<'a> {
 
     // The rule that a line `(NAME` breaks.
     fn begin_rule(&self, name: &str) -> Option<LineRule>
-        ensures { result ≡ begin_rule self.now name.now }
+        ensures { result ≡ begin_fault (held self.now) name.now }
     {
         if !is_name(name) {
             return Some(LineRule::BadName);
@@ -184,8 +186,8 @@ impl<'a> Reader<'a> {
         key: &AttributeKey,
     ) -> Option<LineRule>
         requires right { is_right ≡ has_escapes value.now }
-        requires key { key.now ≡ key_of self.now.spaces name.now }
-        ensures { result ≡ declaration_rule self.now name.now value.now }
+        requires key { key.now ≡ declaration_key name.now }
+        ensures { result ≡ declaration_fault (held self.now) name.now value.now }
     {
         if self.begun.is_none() {
             return Some(LineRule::BadLine);
@@ -208,7 +210,7 @@ impl<'a> Reader<'a> {
     // And on another element.
     fn inner_declaration_rule(&self, name: &str, value: &str, is_right: bool) -> Option<LineRule>
         requires { is_right ≡ has_escapes value.now }
-        ensures { result ≡ inner_declaration_rule self.now name.now value.now }
+        ensures { result ≡ inner_declaration_fault (held self.now) name.now value.now }
     {
         if self.begun.is_none() {
             return Some(LineRule::BadLine);
@@ -232,8 +234,8 @@ impl<'a> Reader<'a> {
     ) -> Option<LineRule>
         requires text { decoded.now.meant ≡ meant value.now }
         requires right { decoded.now.is_right ≡ has_escapes value.now }
-        requires key { key.now ≡ key_of self.now.spaces name.now }
-        ensures { result ≡ pair_rule self.now name.now value.now }
+        requires key { key.now ≡ pair_key name.now (attribute_uri self.now.spaces (prefix_of name.now)) }
+        ensures { result ≡ pair_fault (held self.now) name.now value.now }
     {
         if self.begun.is_none() {
             return Some(LineRule::BadLine);
@@ -268,7 +270,7 @@ impl<'a> Reader<'a> {
         requires text { decoded.now.meant ≡ meant value.now }
         requires right { decoded.now.is_right ≡ has_escapes value.now }
         requires key { key.now ≡ key_of self.now.spaces name.now }
-        ensures { result ≡ attribute_rule self.now name.now value.now }
+        ensures { result ≡ attribute_fault (held self.now) name.now value.now }
     {
         if !is_declaration(name) {
             return self.pair_rule(name, value, decoded, key);
@@ -283,7 +285,7 @@ impl<'a> Reader<'a> {
     fn text_rule(&self, text: &str, decoded: &Decoded) -> Option<LineRule>
         requires text { decoded.now.meant ≡ meant text.now }
         requires right { decoded.now.is_right ≡ has_escapes text.now }
-        ensures { result ≡ text_rule self.now text.now }
+        ensures { result ≡ text_fault (held self.now) text.now }
     {
         if self.is_outside() {
             return Some(LineRule::BadLine);
@@ -304,7 +306,7 @@ impl<'a> Reader<'a> {
     // The rule that a line `CTEXT` breaks.
     fn comment_rule(&self, text: &str, is_right: bool) -> Option<LineRule>
         requires { is_right ≡ has_escapes text.now }
-        ensures { result ≡ comment_rule self.now text.now }
+        ensures { result ≡ comment_fault (held self.now) text.now }
     {
         if !is_right {
             return Some(LineRule::BadEscape);
@@ -317,7 +319,7 @@ impl<'a> Reader<'a> {
 
     // The rule that a line `)NAME` breaks.
     fn finish_rule(&self, name: &str) -> Option<LineRule>
-        ensures { result ≡ finish_rule self.now name.now }
+        ensures { result ≡ finish_fault (held self.now) name.now }
     {
         if !is_name(name) {
             return Some(LineRule::BadName);
@@ -347,7 +349,7 @@ impl<'a> Reader<'a> {
         if self.text.len() == 0 {
             return Ok(());
         }
-        let text = mem::replace(&mut self.text, Draft::new(alloc)).into_chars();
+        let text = mem::replace(&mut self.text, Draft::new(alloc)).into_chars()?;
         self.items.push(TreeItem::Text(text))?;
         Ok(())
     }
@@ -369,7 +371,7 @@ impl<'a> Reader<'a> {
         name: &'a str,
         id: NameId,
     ) -> Result<(), NoMemory>
-        requires { begin_rule self.old name.now ≡ None }
+        requires { begin_fault (held self.old) name.now ≡ None }
         ensures { OnOk result (self.new ≡ after_begin self.old place number name.now id) }
     {
         self.end_waiting(alloc)?;
@@ -389,10 +391,10 @@ impl<'a> Reader<'a> {
         name: &'a str,
         names: &mut NameTable,
     ) -> Result<(), Stop>
-        ensures none { OnOk result (begin_rule self.old name.now ≡ None) }
+        ensures none { OnOk result (begin_fault (held self.old) name.now ≡ None) }
         ensures read { OnOk result ((table : List NameParts) → Grows names.new table → self.new ≡ after_begin self.old place number name.now (id_of table (element_name self.old.spaces name.now))) }
         ensures names { OnOk result (names.new ≡ with_name names.old (element_name self.old.spaces name.now)) }
-        ensures broken { IfErr result (λ s. (rule : LineRule) → s ≡ stop.Broken rule → begin_rule self.old name.now ≡ Some rule) }
+        ensures broken { IfErr result (λ s. (rule : LineRule) → s ≡ stop.Broken rule → begin_fault (held self.old) name.now ≡ Some rule) }
         ensures grows { Grows names.old names.new }
     {
         if let Some(rule) = self.begin_rule(name) {
@@ -440,10 +442,10 @@ impl<'a> Reader<'a> {
         value: &str,
         names: &mut NameTable,
     ) -> Result<(), Stop>
-        ensures none { OnOk result (attribute_rule self.old name.now value.now ≡ None) }
+        ensures none { OnOk result (attribute_fault (held self.old) name.now value.now ≡ None) }
         ensures read { OnOk result ((table : List NameParts) → Grows names.new table → self.new ≡ after_attribute table self.old name.now value.now) }
         ensures names { OnOk result (names.new ≡ with_names names.old (names_by self.old.spaces (Some (tag.Attribute name.now value.now)))) }
-        ensures broken { IfErr result (λ s. (rule : LineRule) → s ≡ stop.Broken rule → attribute_rule self.old name.now value.now ≡ Some rule) }
+        ensures broken { IfErr result (λ s. (rule : LineRule) → s ≡ stop.Broken rule → attribute_fault (held self.old) name.now value.now ≡ Some rule) }
         ensures grows { Grows names.old names.new }
     {
         let decoded = decode(alloc, value)?;
@@ -468,8 +470,8 @@ impl<'a> Reader<'a> {
 
     // Adds a text to the one that is waiting.
     fn add_text(&mut self, alloc: Global, more: &Chars) -> Result<(), NoMemory>
-        requires few { (begins self.old.text more.now && nat_le 1000000 self.old.nodes) ≡ false }
-        requires short { nat_lt 16384 (size_of self.old.text + size_of more.now) ≡ false }
+        requires few { (begins self.old.text more.now && nat_le node_limit self.old.nodes) ≡ false }
+        requires short { nat_lt text_limit (size_of self.old.text + size_of more.now) ≡ false }
         ensures { OnOk result (self.new ≡ with_text self.old more.now) }
     {
         let nodes = self.text_nodes(more);
@@ -481,9 +483,9 @@ impl<'a> Reader<'a> {
 
     // Reads a line `-TEXT`.
     fn text(&mut self, alloc: Global, text: &str) -> Result<(), Stop>
-        ensures none { OnOk result (text_rule self.old text.now ≡ None) }
+        ensures none { OnOk result (text_fault (held self.old) text.now ≡ None) }
         ensures read { OnOk result (self.new ≡ after_text self.old text.now) }
-        ensures broken { IfErr result (λ s. (rule : LineRule) → s ≡ stop.Broken rule → text_rule self.old text.now ≡ Some rule) }
+        ensures broken { IfErr result (λ s. (rule : LineRule) → s ≡ stop.Broken rule → text_fault (held self.old) text.now ≡ Some rule) }
     {
         let decoded = decode(alloc, text)?;
         if let Some(rule) = self.text_rule(text, &decoded) {
@@ -495,7 +497,7 @@ impl<'a> Reader<'a> {
 
     // Adds a comment, behind all that was waiting.
     fn add_comment(&mut self, alloc: Global, comment: Chars) -> Result<(), NoMemory>
-        requires { self.old.nodes < 1000000 }
+        requires { self.old.nodes < node_limit }
         ensures { OnOk result ((text : List ℕ) → comment ≡ meant text → self.new ≡ after_comment self.old text) }
     {
         self.end_waiting(alloc)?;
@@ -506,9 +508,9 @@ impl<'a> Reader<'a> {
 
     // Reads a line `CTEXT`.
     fn comment(&mut self, alloc: Global, text: &str) -> Result<(), Stop>
-        ensures none { OnOk result (comment_rule self.old text.now ≡ None) }
+        ensures none { OnOk result (comment_fault (held self.old) text.now ≡ None) }
         ensures read { OnOk result (self.new ≡ after_comment self.old text.now) }
-        ensures broken { IfErr result (λ s. (rule : LineRule) → s ≡ stop.Broken rule → comment_rule self.old text.now ≡ Some rule) }
+        ensures broken { IfErr result (λ s. (rule : LineRule) → s ≡ stop.Broken rule → comment_fault (held self.old) text.now ≡ Some rule) }
     {
         let decoded = decode(alloc, text)?;
         if let Some(rule) = self.comment_rule(text, decoded.is_right) {
@@ -520,9 +522,9 @@ impl<'a> Reader<'a> {
 
     // Reads a line `)NAME`.
     fn finish(&mut self, alloc: Global, name: &str) -> Result<(), Stop>
-        ensures none { OnOk result (finish_rule self.old name.now ≡ None) }
+        ensures none { OnOk result (finish_fault (held self.old) name.now ≡ None) }
         ensures read { OnOk result (self.new ≡ after_finish self.old) }
-        ensures broken { IfErr result (λ s. (rule : LineRule) → s ≡ stop.Broken rule → finish_rule self.old name.now ≡ Some rule) }
+        ensures broken { IfErr result (λ s. (rule : LineRule) → s ≡ stop.Broken rule → finish_fault (held self.old) name.now ≡ Some rule) }
     {
         if let Some(rule) = self.finish_rule(name) {
             return Err(Stop::Broken(rule));
@@ -542,10 +544,10 @@ impl<'a> Reader<'a> {
         tag: LineTag<'a>,
         names: &mut NameTable,
     ) -> Result<(), Stop>
-        ensures none { OnOk result (tag_rule self.old (said tag.entry) ≡ None) }
+        ensures none { OnOk result (tag_fault (held self.old) (said tag.entry) ≡ None) }
         ensures read { OnOk result ((table : List NameParts) → Grows names.new table → self.new ≡ after table place number self.old (Some (said tag.entry))) }
         ensures names { OnOk result (names.new ≡ with_names names.old (names_by self.old.spaces (Some (said tag.entry)))) }
-        ensures broken { IfErr result (λ s. (rule : LineRule) → s ≡ stop.Broken rule → tag_rule self.old (said tag.entry) ≡ Some rule) }
+        ensures broken { IfErr result (λ s. (rule : LineRule) → s ≡ stop.Broken rule → tag_fault (held self.old) (said tag.entry) ≡ Some rule) }
         ensures grows { Grows names.old names.new }
     {
         match tag {
@@ -580,10 +582,10 @@ impl<'a> Reader<'a> {
         line: &'a Line,
         names: &mut NameTable,
     ) -> Result<(), Stop>
-        ensures none { OnOk result (line_rule self.old line.now.bytes ≡ None) }
+        ensures none { OnOk result (line_fault (held self.old) line.now.bytes ≡ None) }
         ensures read { OnOk result ((table : List NameParts) → Grows names.new table → self.new ≡ after table place line.now.number self.old (tag_of line.now.bytes)) }
         ensures names { OnOk result (names.new ≡ with_names names.old (names_by self.old.spaces (tag_of line.now.bytes))) }
-        ensures broken { IfErr result (λ s. (rule : LineRule) → s ≡ stop.Broken rule → line_rule self.old line.now.bytes ≡ Some rule) }
+        ensures broken { IfErr result (λ s. (rule : LineRule) → s ≡ stop.Broken rule → line_fault (held self.old) line.now.bytes ≡ Some rule) }
         ensures grows { Grows names.old names.new }
     {
         let Some(text) = line_text(line.bytes.as_slice()) else {
@@ -598,7 +600,7 @@ impl<'a> Reader<'a> {
 
     // The place of the line and the rule that the lines break by ending here, behind `count` lines.
     pub(crate) fn end_fault(&self, count: usize) -> Option<(usize, LineRule)>
-        ensures { result ≡ end_rule self.now count }
+        ensures { result ≡ end_fault (held self.now) count }
     {
         match self.opened.as_slice().last() {
             Some(innermost) => Some((innermost.place, LineRule::Unclosed)),

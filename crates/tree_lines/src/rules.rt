@@ -18,7 +18,8 @@ pub enum LineRule {
     WrongClose,
     /// A second element beside the outermost one.
     TwoRoots,
-    /// Two attributes of one element with the same URI and local name, or a prefix that is declared twice.
+    /// Two attributes of one element that are written alike or have the same URI and local name, or a prefix that is declared
+    /// twice. An attribute whose prefix is not declared has no URI.
     DuplicateAttribute,
     /// An element that 120 others hold.
     TooDeep,

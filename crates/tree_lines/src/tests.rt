@@ -35,8 +35,12 @@ fn number_of(rule: LineRule) -> u32 {
 // The number of the line of the first fault, and the rule from 1; zeros where the lines are read.
 fn fault_in(alloc: Global, text: &str) -> Result<(u32, u32), NoMemory> {
     let lines = lines_of(alloc, text)?;
+    fault_of(alloc, &lines)
+}
+
+fn fault_of(alloc: Global, lines: &[Line]) -> Result<(u32, u32), NoMemory> {
     let mut names = NameTable::new(alloc);
-    match read_tree(alloc, &lines, &mut names) {
+    match read_tree(alloc, lines, &mut names) {
         Ok(_) => Ok((0, 0)),
         Err(LineFault::Refused(number, rule)) => Ok((number, number_of(rule))),
         Err(LineFault::NoMemory) => Ok((1, 99)),
@@ -44,7 +48,7 @@ fn fault_in(alloc: Global, text: &str) -> Result<(u32, u32), NoMemory> {
 }
 
 // Lines, the number of the line of their first fault, and its rule.
-const FAULTS: [(&str, u32, u32); 44] = [
+const FAULTS: [(&str, u32, u32); 51] = [
     ("(a\n\u{1}\n)a", 8, 1),
     ("(a\n-\u{fffe}\n)a", 8, 1),
     ("(a\n+x\n)a", 8, 1),
@@ -89,6 +93,13 @@ const FAULTS: [(&str, u32, u32); 44] = [
     ("(p:a\nAxmlns:p\n)p:a", 8, 1),
     ("(a\nAxml:lang d\nAlang e\n)a", 0, 0),
     ("(a\nAxmlns u\n)a", 0, 0),
+    ("(a\nAp:x 1\nAp:x 2\n)a", 8, 11),
+    ("(a\nAx 1\nAp:x 2\n)a", 9, 11),
+    ("(a\nAxmlns:xml u\nAxmlns:q u\nAxml:x 1\nAq:x 2\n)a", 0, 0),
+    ("(a\nAxmlns:xml \n)a", 8, 11),
+    ("(xmlns:a\nAxmlns:xmlns u\n)xmlns:a", 0, 0),
+    ("(xmlns:a\n)xmlns:a", 7, 11),
+    ("(a\nAxmlns:xmlns u\nAxmlns:xmlns v\n)a", 9, 7),
 ];
 
 #[test]
@@ -97,6 +108,32 @@ fn names_the_first_fault(rt: HostRuntime) {
         let found = fault_in(rt.alloc(), text).expect(&rt, "memory");
         assert_eq!(rt; found.0, number, "the line in {text}");
         assert_eq!(rt; found.1, rule, "the rule in {text}");
+    }
+}
+
+// Lines that are not UTF-8 (RFC 3629, section 3): a byte that no character has, one that only goes on with a character, and a
+// character that is cut off.
+const NOT_UTF8: [[u8; 3]; 4] = [
+    [b'-', b'x', 0xff],
+    [b'C', 0x80, b'x'],
+    [b'-', b'x', 0xc3],
+    [b'A', 0xe2, 0x82],
+];
+
+// A line within an element.
+fn within_element(alloc: Global, line: &[u8]) -> Result<(u32, u32), NoMemory> {
+    let mut lines = lines_of(alloc, "(a")?;
+    let bytes = Items::from_slice(alloc, line)?;
+    lines.push(Line { number: 8, bytes })?;
+    fault_of(alloc, &lines)
+}
+
+#[test]
+fn refuses_other_bytes(rt: HostRuntime) {
+    for line in NOT_UTF8 {
+        let found = within_element(rt.alloc(), &line).expect(&rt, "memory");
+        assert_eq!(rt; found.0, 8);
+        assert_eq!(rt; found.1, 1);
     }
 }
 
@@ -202,6 +239,23 @@ fn keeps_the_limits(rt: HostRuntime) {
     }
 }
 
+// The first fault of an element with so many comments that does not end.
+fn fault_of_comments(alloc: Global, count: u32) -> Result<(u32, u32), NoMemory> {
+    let mut lines = lines_of(alloc, "(a")?;
+    for number in 0..count {
+        let bytes = Items::from_slice(alloc, b"C")?;
+        lines.push(Line { number, bytes })?;
+    }
+    fault_of(alloc, &lines)
+}
+
+#[test]
+fn counts_the_nodes(rt: HostRuntime) {
+    let found = fault_of_comments(rt.alloc(), 1_000_001).expect(&rt, "memory");
+    assert_eq!(rt; found.0, 999_999);
+    assert_eq!(rt; found.1, 9);
+}
+
 // What is written of the lines' tree; nothing where they are refused.
 fn written_again(alloc: Global, text: &str, names: &mut NameTable) -> Result<Chars, LineFault> {
     let lines = lines_of(alloc, text)?;
@@ -237,7 +291,7 @@ fn full_form(alloc: Global) -> Result<Chars, NoMemory> {
     writer.text(&text)?;
     writer.comment(&text)?;
     writer.end(element, &names)?;
-    Ok(writer.into_chars())
+    writer.into_chars()
 }
 
 #[test]

@@ -122,7 +122,7 @@ impl Decoder {
             text.push('\\')?;
         }
         Ok(Decoded {
-            meant: text.into_chars(),
+            meant: text.into_chars()?,
             is_right: is_right && !is_behind,
         })
     }

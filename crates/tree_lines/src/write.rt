@@ -4,7 +4,6 @@ ghost use Rattle.std.specs.String.{string_bytes};
 ghost use Rattle.serna_kinds.specs.Names.{space};
 ghost use Rattle.tree_lines.specs.declared.tree.TreeItem.{TreeItem};
 ghost use Rattle.tree_lines.specs.Given.{Given, items_of};
-ghost use Rattle.tree_lines.specs.Tokens.{without_line};
 ghost use Rattle.tree_lines.specs.Canonical.{qualified, spelling_of, escape_of, escaped, text_line, comment_line, attribute_line, declaration_line, begin_lines, outermost_lines, end_line, line_text, text_of_lines, canonical_text};
 ghost use Rattle.tree_lines.specs.Writing.{Writing, written_with};
 
@@ -212,11 +211,11 @@ impl TreeWriter {
         Ok(())
     }
 
-    /// The text that was written, by its characters. Takes no memory.
-    pub fn into_chars(self) -> Chars
+    /// The text that was written, by its characters. Takes no memory for the text itself.
+    pub fn into_chars(self) -> Result<Chars, NoMemory>
         // Its UTF-8 is what was written.
-        ensures bytes { encode_utf8_all result ≡ self }
-        ensures characters { result ≡ chars self }
+        ensures bytes { IfOk result (λ text. encode_utf8_all text ≡ self) }
+        ensures characters { IfOk result (λ text. text ≡ chars self) }
     {
         Chars::from_string(self.text)
     }
@@ -296,8 +295,8 @@ impl<'a> TreeWalk<'a> {
         }
     }
 
-    fn into_chars(self) -> Chars
-        ensures { encode_utf8_all result ≡ self.entry.text }
+    fn into_chars(self) -> Result<Chars, NoMemory>
+        ensures { IfOk result (λ text. encode_utf8_all text ≡ self.entry.text) }
     {
         let TreeWalk { writer, .. } = self;
         writer.into_chars()
@@ -307,11 +306,11 @@ impl<'a> TreeWalk<'a> {
 /// Writes the canonical text of a tree that was read, whose elements and attributes have their names in the table.
 pub fn write_tree(alloc: Global, tree: &Tree, names: &NameTable) -> Result<Chars, NoMemory>
     // In UTF-8 it is the canonical text of the tree that the items are, with what it declares.
-    ensures text { IfOk result (λ text. (given : Given) → map without_line tree.now.items ≡ items_of given → encode_utf8_all text ≡ canonical_text names.now tree.now.spaces given) }
+    ensures text { IfOk result (λ text. (given : Given) → tree.now.items ≡ items_of given → encode_utf8_all text ≡ canonical_text names.now tree.now.spaces given) }
 {
     let mut walk = TreeWalk::new(alloc, tree.spaces());
     for item in tree.items() {
         walk.step(item, names)?;
     }
-    Ok(walk.into_chars())
+    walk.into_chars()
 }

@@ -11,7 +11,7 @@ fn declaring(alloc: Global, prefix: &str, uri: &str) -> Result<Chars, NoMemory> 
     spaces.declare(alloc, prefix, uri)?;
     let mut writer = TreeWriter::new(alloc);
     writer.begin_outermost(element, &[], &names, &spaces)?;
-    Ok(writer.into_chars())
+    writer.into_chars()
 }
 
 // A prefix, its URI, and what is written.
@@ -36,7 +36,7 @@ fn texts(alloc: Global, text: &str) -> Result<Chars, NoMemory> {
     let mut writer = TreeWriter::new(alloc);
     writer.text(&text)?;
     writer.comment(&text)?;
-    Ok(writer.into_chars())
+    writer.into_chars()
 }
 
 // A text, and what is written of it as a text and as a comment.

@@ -2,7 +2,7 @@
 use Rattle.std.proofs.Common.{◌≡◌, List, drop}
 use Rattle.std.specs.List.{list_all}
 use Rattle.serna_kinds.specs.Names.{NameParts, Grows}
-use Rattle.tree_lines.specs.Tokens.{AreApart}
+use Rattle.serna_kinds.specs.Apart.{AreApart}
 use Rattle.style_sheet.specs.Built.{is_plain_attribute}
 use Rattle.style_sheet.proofs.names.are_plain_attributes.Given as goal
 

@@ -1,7 +1,7 @@
 -- The attributes are apart, and say what those that are left say.
 use Rattle.std.proofs.Common.{◌≡◌, List, drop}
 use Rattle.serna_kinds.specs.Names.{NameParts, Grows}
-use Rattle.tree_lines.specs.Tokens.{AreApart}
+use Rattle.serna_kinds.specs.Apart.{AreApart}
 use Rattle.style_sheet.specs.Styles.{keeps}
 use Rattle.style_sheet.proofs.names.keeps.Given as goal
 

@@ -1,4 +1,4 @@
-use Rattle.std.proofs.Common.{◌≡◌, refl}
+use Rattle.std.proofs.Common.{refl}
 use Rattle.std.specs.Str.{chars, is_utf8}
 use Rattle.tree_lines.proofs.laws.worked_faults.Goals as goal
 
@@ -69,3 +69,15 @@ returns-clause-empty_uri c = refl
 pub returns-clause-inner : goal.returns-clause-inner
 unfolding chars is_utf8 lib.Utf8.encode
 returns-clause-inner c = refl
+
+pub returns-clause-unbound_twice : goal.returns-clause-unbound_twice
+unfolding chars is_utf8 lib.Utf8.encode
+returns-clause-unbound_twice c = refl
+
+pub returns-clause-unbound_beside : goal.returns-clause-unbound_beside
+unfolding chars is_utf8 lib.Utf8.encode
+returns-clause-unbound_beside c = refl
+
+pub returns-clause-xml_alone : goal.returns-clause-xml_alone
+unfolding chars is_utf8 lib.Utf8.encode
+returns-clause-xml_alone c = refl

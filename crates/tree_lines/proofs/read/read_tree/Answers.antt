@@ -1,8 +1,7 @@
 -- What is read is a document, and only want of memory keeps one from being read.
-use Rattle.std.proofs.Common.{List, ◌∙◌, ap, sym}
+use Rattle.std.proofs.Common.{List, ◌∙◌, ap}
 use Rattle.serna_kinds.specs.Names.{Space}
 use Rattle.serna_kinds.proofs.NameLemmas.{Grows-refl}
-use Rattle.tree_lines.specs.declared.tree.TreeItem.{TreeItem}
 use Rattle.tree_lines.specs.Tokens.{items_in}
 use Rattle.tree_lines.specs.Whole.{ReadTree}
 use Rattle.tree_lines.proofs.Documented.{items-given, document-read, tree-read, items-named, only_memory}
