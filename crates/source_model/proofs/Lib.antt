@@ -1,1 +1,2 @@
+pub mod NamesGrown
 pub mod Spots

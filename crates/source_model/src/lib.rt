@@ -2,3 +2,7 @@
 //!
 //! The crate is its definitions (`specs/`) and the laws on them; the functions here carry the laws.
 #![tactic(auto)]
+
+mod laws;
+
+pub use laws::{names_of_a_proper_source_are_known, proper_while_names_grow};

@@ -6,6 +6,7 @@ use Rattle.std.proofs.lemmas.Str.{encodes-append}
 use Rattle.std.proofs.lemmas.Option.{slice_get_within, get_or_from_slice_get, same_Some}
 use Rattle.std.specs.List.{insert}
 use Rattle.std.specs.Option.{option_map, option_and_then}
+use Rattle.serna_kinds.specs.Limits.{text_limit, node_limit, depth_limit}
 use Rattle.serna_kinds.specs.declared.cells.NameId.{NameId}
 use Rattle.serna_kinds.specs.declared.cells.NodeName.{NodeName}
 use Rattle.serna_kinds.specs.declared.cells.AttrPair.{AttrPair}
@@ -21,11 +22,11 @@ use Rattle.source_tree.specs.declared.node.NodeBody.{NodeBody}
 use Rattle.source_tree.specs.declared.node.NodeBody.TheVariants as stored
 use Rattle.source_tree.specs.declared.prim.SubItem.{SubItem}
 use Rattle.source_tree.specs.declared.prim.SubItem.TheVariants as item
-use Rattle.source_tree.specs.Arena.{source_of, with_spaces, stored_body, node_for, AreStored, AreLeaves, IsArena, leaf}
+use Rattle.source_tree.specs.Arena.{Slot, slot_for, source_of, with_spaces, stored_body, node_for, AreStored, AreLeaves, IsArena, leaf}
 use Rattle.source_tree.specs.Changing.{HasTextAt, TextInserted, HasKidsAt, LeafAdded, IsInserted, IsLeaf, IsBodyOf}
 use Rattle.source_tree.specs.Prims.{IsElement, HasPlace, HasRoom, IsNewLeaf, subtree, with_tree, with_nodes}
 use Rattle.source_tree.proofs.Numbering.{slice_get_at}
-use Rattle.source_tree.proofs.Around.{at_same, at_other, count_same, count_other, Around, below, plug, uses-plug, uses-le-plug, numbers-plug, depth_of-plug, AreLeaves-plug, AreNodes-plug, IsTop-plug, outside_node, Found, found}
+use Rattle.source_tree.proofs.Around.{at_same, at_other, count_same, count_other, Around, below, plug, uses-plug, uses-le-plug, numbers-plug, depth_of-plug, AreLeaves-plug, AreNodes-plug, IsTop-plug, outside_node, spot_used, Found, found}
 use Rattle.source_tree.proofs.Stored.{reads_tree, stored_within, arena_stored, arena_spot}
 
 -- lists with one item changed, and one behind them
@@ -46,31 +47,34 @@ get_left [] ys i x e = cc
 get_left (y ∷ xs) ys zero x e = e
 get_left (y ∷ xs) ys (suc i) x e = get_left xs ys i x e
 
-pub leaf_added : (old pushed : List Node) (parent : NodeName) (place : ℕ) (body : NodeBody) (own r : Node) (kids : List NodeName) →
-    slice_get old parent.0 ≡ Some own → pushed ≡ old ++ leaf body parent ∷ [] → r ≡ get_or pushed parent.0 r → kids ≡ insert own.kids place (named (length old)) →
-    LeafAdded old parent place body (set pushed parent.0 (record { up = r.up; body = r.body; kids = kids }))
-leaf_added old pushed parent place body own r kids was is-pushed is-r is-kids =
-    let within : parent.0 < length old = slice_get_within old parent.0 own was in
-    let there : slice_get pushed parent.0 ≡ Some own = ap (λ ns. slice_get ns parent.0) is-pushed ∙ get_left old (leaf body parent ∷ []) parent.0 own was in
-    let read : r ≡ own = is-r ∙ get_or_from_slice_get pushed parent.0 own r there in
+-- a place that has a node has it with one more behind
+pub still_there : (old pushed : List Slot) (n : ℕ) (own : Node) (last r : Slot) → slice_get old n ≡ Some (Some own) → pushed ≡ old ++ last ∷ [] → r ≡ get_or pushed n r → r ≡ Some own
+still_there old pushed n own last r was is-pushed is-r =
+    is-r ∙ get_or_from_slice_get pushed n (Some own) r (ap (λ ns. slice_get ns n) is-pushed ∙ get_left old (last ∷ []) n (Some own) was)
+
+pub leaf_added : (old pushed : List Slot) (parent : NodeName) (place : ℕ) (body : NodeBody) (own x : Node) (kids : List NodeName) → slice_get old parent.0 ≡ Some (Some own) →
+    pushed ≡ old ++ leaf body parent ∷ [] → x ≡ own → kids ≡ insert own.kids place (named (length old)) →
+    LeafAdded old parent place body (set pushed parent.0 (Some (record { up = x.up; body = x.body; kids = kids })))
+leaf_added old pushed parent place body own x kids was is-pushed is-x is-kids =
+    let within : parent.0 < length old = slice_get_within old parent.0 (Some own) was in
     record {
       own = own;
       was = was;
-      is = ap (λ ns. set ns parent.0 (record { up = r.up; body = r.body; kids = kids })) is-pushed
-          ∙ set-append_left old (leaf body parent ∷ []) parent.0 (record { up = r.up; body = r.body; kids = kids }) within
-          ∙ ap (λ (x : Node). set old parent.0 (record { up = x.up; body = x.body; kids = kids }) ++ leaf body parent ∷ []) read
-          ∙ ap (λ ks. set old parent.0 (record { up = own.up; body = own.body; kids = ks }) ++ leaf body parent ∷ []) is-kids;
+      is = ap (λ (y : Node). set pushed parent.0 (Some (record { up = y.up; body = y.body; kids = kids }))) is-x
+          ∙ ap (λ ns. set ns parent.0 (Some (record { up = own.up; body = own.body; kids = kids }))) is-pushed
+          ∙ set-append_left old (leaf body parent ∷ []) parent.0 (Some (record { up = own.up; body = own.body; kids = kids })) within
+          ∙ ap (λ ks. set old parent.0 (Some (record { up = own.up; body = own.body; kids = ks })) ++ leaf body parent ∷ []) is-kids;
     }
 
 -- what is stored stays so where all nodes of other numbers stay
-abbrev pub KeepsOthers : ℕ → List Node → List Node → Type 0
-KeepsOthers n old new = (k : ℕ) (x : Node) → (k ≡ n → ⊥) → slice_get old k ≡ Some x → slice_get new k ≡ Some x
+abbrev pub KeepsOthers : ℕ → List Slot → List Slot → Type 0
+KeepsOthers n old new = (k : ℕ) (x : Slot) → (k ≡ n → ⊥) → slice_get old k ≡ Some x → slice_get new k ≡ Some x
 
-AreStored-outside : (f : Forest) (old new : List Node) (n : ℕ) (up : Option ℕ) → KeepsOthers n old new → uses n f ≡ 0 → AreStored old up f → AreStored new up f
+AreStored-outside : (f : Forest) (old new : List Slot) (n : ℕ) (up : Option ℕ) → KeepsOthers n old new → uses n f ≡ 0 → AreStored old up f → AreStored new up f
 AreStored-outside none old new n up keeps out h = tt
 AreStored-outside (node k body kids rest) old new n up keeps out h =
     let o = outside_node n k body kids rest out in
-    (keeps k (node_for up body kids) (λ e. o.0 (sym e)) h.0, AreStored-outside kids old new n (Some k) keeps o.1 h.1, AreStored-outside rest old new n up keeps o.2 h.2)
+    (keeps k (slot_for up body kids) (λ e. o.0 (sym e)) h.0, AreStored-outside kids old new n (Some k) keeps o.1 h.1, AreStored-outside rest old new n up keeps o.2 h.2)
 
 pub other_number : (n k x y : ℕ) → 0 < x → (if n == k then 1 else 0) + x + y ≤ 1 → (k ≡ n → ⊥) × (x ≤ 1) × (y ≡ 0)
 other_number n k x y some once = (λ e. let own = count_same n k (sym e) in absurd (omega (arith, own, some, once)), omega (arith, once), omega (arith, some, once))
@@ -78,27 +82,27 @@ other_number n k x y some once = (λ e. let own = count_same n k (sym e) in absu
 pub other_behind : (n k x y : ℕ) → 0 < y → (if n == k then 1 else 0) + x + y ≤ 1 → (k ≡ n → ⊥) × (x ≡ 0) × (y ≤ 1)
 other_behind n k x y some once = (λ e. let own = count_same n k (sym e) in absurd (omega (arith, own, some, once)), omega (arith, some, once), omega (arith, once))
 
-AreStored-plug : (a : Around) (f g : Forest) (old new : List Node) (n : ℕ) (up : Option ℕ) → KeepsOthers n old new → 0 < uses n f → uses n (plug a f) ≤ 1 → numbers g ≡ numbers f →
+AreStored-plug : (a : Around) (f g : Forest) (old new : List Slot) (n : ℕ) (up : Option ℕ) → KeepsOthers n old new → 0 < uses n f → uses n (plug a f) ≤ 1 → numbers g ≡ numbers f →
     ((above : Option ℕ) → AreStored old above f → AreStored new above g) → AreStored old up (plug a f) → AreStored new up (plug a g)
 AreStored-plug Around.here f g old new n up keeps some once same own h = own up h
 AreStored-plug (below k body a rest) f g old new n up keeps some once same own h =
     let inside = uses-le-plug n a f in
     let o = other_number n k (uses n (plug a f)) (uses n rest) (omega (arith, inside, some)) once in (
-      keeps k (node_for up body (plug a f)) o.0 h.0 ∙ ap (λ ns. Some (record { up = option_map named up; body = stored_body body; kids = map named ns })) (sym (numbers-plug a f g same)),
+      keeps k (slot_for up body (plug a f)) o.0 h.0 ∙ ap (λ ns. Some (Some (record { up = option_map named up; body = stored_body body; kids = map named ns }))) (sym (numbers-plug a f g same)),
       AreStored-plug a f g old new n (Some k) keeps some o.1 same own h.1,
       AreStored-outside rest old new n up keeps o.2 h.2,
     )
 AreStored-plug (Around.beside k body kids a) f g old new n up keeps some once same own h =
     let inside = uses-le-plug n a f in
     let o = other_behind n k (uses n kids) (uses n (plug a f)) (omega (arith, inside, some)) once in
-    (keeps k (node_for up body kids) o.0 h.0, AreStored-outside kids old new n (Some k) keeps o.1 h.1, AreStored-plug a f g old new n up keeps some o.2 same own h.2)
+    (keeps k (slot_for up body kids) o.0 h.0, AreStored-outside kids old new n (Some k) keeps o.1 h.1, AreStored-plug a f g old new n up keeps some o.2 same own h.2)
 
 -- the source of an arena by its parts
-made-source_of : (nodes : List Node) → (source_of nodes).made ≡ length nodes - 1
+made-source_of : (nodes : List Slot) → (source_of nodes).made ≡ length nodes - 1
 unfolding source_of
 made-source_of nodes = refl
 
-source_of-parts : (nodes : List Node) (source : Source) (tree : Forest) (made : ℕ) → (source_of nodes).tree ≡ tree → length nodes - 1 ≡ made → source.spaces ≡ [] →
+source_of-parts : (nodes : List Slot) (source : Source) (tree : Forest) (made : ℕ) → (source_of nodes).tree ≡ tree → length nodes - 1 ≡ made → source.spaces ≡ [] →
     source_of nodes ≡ record { tree = tree; made = made; spaces = source.spaces }
 unfolding source_of
 source_of-parts nodes source tree made is-tree is-made is-spaces =
@@ -106,12 +110,12 @@ source_of-parts nodes source tree made is-tree is-made is-spaces =
     ∙ ap (λ m. record { tree = tree; made = m; spaces = [] }) is-made
     ∙ ap (λ s. record { tree = tree; made = made; spaces = s }) (sym is-spaces)
 
-spaces-source_of : (nodes : List Node) → (source_of nodes).spaces ≡ []
+spaces-source_of : (nodes : List Slot) → (source_of nodes).spaces ≡ []
 unfolding source_of
 spaces-source_of nodes = refl
 
 -- the source of an arena is proper, but for what stands in its nodes
-proper_arena : (names : List NameParts) (nodes : List Node) (top : Forest) → IsArena nodes → (source_of nodes).tree ≡ node 0 Root top none → IsTop top → AreNodes names top → IsProper names (source_of nodes)
+proper_arena : (names : List NameParts) (nodes : List Slot) (top : Forest) → IsArena nodes → (source_of nodes).tree ≡ node 0 Root top none → IsTop top → AreNodes names top → IsProper names (source_of nodes)
 proper_arena names nodes top arena tree outermost nodes_are =
     let made = made-source_of nodes in
     record {
@@ -124,20 +128,20 @@ proper_arena names nodes top arena tree outermost nodes_are =
           let within : n < length nodes = stored_within (node 0 Root arena.top none) nodes None n arena.stored (subst (λ t. 0 < uses n t) arena.tree used) in
           omega (arith, made, within);
       few = let h = arena.few in omega (arith, made, h);
-      shallow = subst (λ t. depth_of t ≤ 120) (sym arena.tree) (let h = arena.shallow in omega (arith, h));
+      shallow = subst (λ t. depth_of t ≤ depth_limit) (sym arena.tree) (let h = arena.shallow in omega (arith, h));
     }
 
 -- a node of the source other than the document node
-pub record Standing (nodes : List Node) (top : Forest) (n : ℕ) (spot : Spot) : Type 0 where
+pub record Standing (nodes : List Slot) (top : Forest) (n : ℕ) (spot : Spot) : Type 0 where
   pub other : n ≡ 0 → ⊥
   pub found : Found n spot top
-  pub stored : slice_get nodes n ≡ Some (node_for spot.up spot.body spot.kids)
+  pub stored : slice_get nodes n ≡ Some (slot_for spot.up spot.body spot.kids)
 
 pub or_else-none : (o : Option Spot) → or_else o None ≡ o
 or_else-none None = refl
 or_else-none (Some spot) = refl
 
-standing : (nodes : List Node) (arena : IsArena nodes) (n : ℕ) (spot : Spot) → spot_of (source_of nodes) n ≡ Some spot → (spot.body ≡ Root → ⊥) → Standing nodes arena.top n spot
+standing : (nodes : List Slot) (arena : IsArena nodes) (n : ℕ) (spot : Spot) → spot_of (source_of nodes) n ≡ Some spot → (spot.body ≡ Root → ⊥) → Standing nodes arena.top n spot
 standing nodes arena n spot e inner =
     let document : Spot = record { up = None; body = Root; kids = arena.top } in
     let at : spot_in None n (node 0 Root arena.top none) ≡ Some spot = ap (spot_in None n) (sym arena.tree) ∙ e in
@@ -152,11 +156,11 @@ standing nodes arena n spot e inner =
     }
 
 -- an arena in which one node has changed
-changed : (old new : List Node) (arena : IsArena old) (n : ℕ) (a : Around) (f g : Forest) → arena.top ≡ plug a f → (f ≡ none → ⊥) → KeepsOthers n old new → 0 < uses n f → numbers g ≡ numbers f →
+changed : (old new : List Slot) (arena : IsArena old) (n : ℕ) (a : Around) (f g : Forest) → arena.top ≡ plug a f → (f ≡ none → ⊥) → KeepsOthers n old new → 0 < uses n f → numbers g ≡ numbers f →
     ((above : Option ℕ) → uses n f ≤ 1 → AreStored old above f → AreStored new above g) → (AreLeaves f → AreLeaves g) → depth_of g ≤ depth_of f →
-    ((k : ℕ) → uses k (node 0 Root (plug a g) none) ≤ 1) → ((k : ℕ) → k < length new → 0 < uses k (node 0 Root (plug a g) none)) → length new ≤ 1000001 →
+    ((k : ℕ) → uses k (node 0 Root (plug a g) none) ≤ 1) → ((k : ℕ) → k < length new → uses k (node 0 Root (plug a g) none) ≡ 0 → slice_get new k ≡ Some None) → length new ≤ 1000001 →
     IsArena new × ((source_of new).tree ≡ node 0 Root (plug a g) none)
-changed old new arena n a f g is some keeps used same own leaves deep distinct complete few =
+changed old new arena n a f g is some keeps used same own leaves deep distinct empty few =
     let whole : Around = below 0 Root a none in
     let stored_old : AreStored old None (plug whole f) = subst (λ t. AreStored old None (node 0 Root t none)) is arena.stored in
     let once : uses n (plug whole f) ≤ 1 = subst (λ t. uses n (node 0 Root t none) ≤ 1) is (arena.distinct n) in
@@ -164,9 +168,9 @@ changed old new arena n a f g is some keeps used same own leaves deep distinct c
     let stored_new : AreStored new None (plug whole g) = AreStored-plug whole f g old new n None keeps used once same (λ above. own above (omega (arith, part, once))) stored_old in
     let leaves_new : AreLeaves (plug a g) = AreLeaves-plug a f g some leaves (subst AreLeaves is arena.leaves) in
     let depth = depth_of-plug a f g deep in
-    let depth_old : depth_of (plug a f) ≤ 120 = subst (λ t. depth_of t ≤ 120) is arena.shallow in
-    let shallow : depth_of (plug a g) ≤ 120 = omega (arith, depth, depth_old) in
-    (arena_stored new (plug a g) stored_new leaves_new distinct complete shallow few, reads_tree new (plug a g) stored_new leaves_new shallow)
+    let depth_old : depth_of (plug a f) ≤ depth_limit = subst (λ t. depth_of t ≤ depth_limit) is arena.shallow in
+    let shallow : depth_of (plug a g) ≤ depth_limit = omega (arith, depth, depth_old) in
+    (arena_stored new (plug a g) stored_new leaves_new distinct empty shallow few, reads_tree new (plug a g) stored_new leaves_new shallow)
 
 -- the characters of a text
 characters_text : (b : Body) (text : List ℕ) → characters b ≡ Some text → b ≡ Text text
@@ -188,18 +192,18 @@ spot_text source n text e = text_spot (spot_of source n) text e
 inserted_body : (b : NodeBody) (body : NodeBody) (text : List ℕ) (place : ℕ) (piece : List ℕ) → b ≡ stored.Text text → IsInserted place piece b body → body ≡ stored.Text (inserted place piece text)
 inserted_body b body text place piece is put = subst (λ x. IsInserted place piece x body) is put
 
-text_entry : (old new : List Node) (n place : ℕ) (piece : List ℕ) → TextInserted old n place piece new → (up : Option ℕ) (text : List ℕ) (kids : Forest) → slice_get old n ≡ Some (node_for up (Text text) kids) →
-    slice_get new n ≡ Some (node_for up (Text (inserted place piece text)) kids)
+text_entry : (old new : List Slot) (n place : ℕ) (piece : List ℕ) → TextInserted old n place piece new → (up : Option ℕ) (text : List ℕ) (kids : Forest) → slice_get old n ≡ Some (slot_for up (Text text) kids) →
+    slice_get new n ≡ Some (slot_for up (Text (inserted place piece text)) kids)
 text_entry old new n place piece t up text kids e =
-    let own : t.own ≡ node_for up (Text text) kids = same_Some t.own (node_for up (Text text) kids) (sym t.was ∙ e) in
+    let own : t.own ≡ node_for up (Text text) kids = same_Some t.own (node_for up (Text text) kids) (same_Some (Some t.own) (slot_for up (Text text) kids) (sym t.was ∙ e)) in
     let body = inserted_body t.own.body t.body text place piece (ap (λ (x : Node). x.body) own) t.put in
     ap (λ ns. slice_get ns n) t.is
-    ∙ get_set_same old n (record { up = t.own.up; body = t.body; kids = t.own.kids }) (slice_get_within old n t.own t.was)
-    ∙ ap (λ b. Some (record { up = t.own.up; body = b; kids = t.own.kids })) body
-    ∙ ap (λ (x : Node). Some (record { up = x.up; body = stored.Text (inserted place piece text); kids = x.kids })) own
+    ∙ get_set_same old n (Some (record { up = t.own.up; body = t.body; kids = t.own.kids })) (slice_get_within old n (Some t.own) t.was)
+    ∙ ap (λ b. Some (Some (record { up = t.own.up; body = b; kids = t.own.kids }))) body
+    ∙ ap (λ (x : Node). Some (Some (record { up = x.up; body = stored.Text (inserted place piece text); kids = x.kids }))) own
 
-text_keeps : (old new : List Node) (n place : ℕ) (piece : List ℕ) → TextInserted old n place piece new → KeepsOthers n old new
-text_keeps old new n place piece t k x other e = ap (λ ns. slice_get ns k) t.is ∙ get_set_other old n k (record { up = t.own.up; body = t.body; kids = t.own.kids }) other ∙ e
+text_keeps : (old new : List Slot) (n place : ℕ) (piece : List ℕ) → TextInserted old n place piece new → KeepsOthers n old new
+text_keeps old new n place piece t k x other e = ap (λ ns. slice_get ns k) t.is ∙ get_set_other old n k (Some (record { up = t.own.up; body = t.body; kids = t.own.kids })) other ∙ e
 
 pub with_text-root : (n : ℕ) (change : List ℕ → List ℕ) (top : Forest) → with_text n change (node 0 Root top none) ≡ node 0 Root (with_text n change top) none
 with_text-root n change top = elim (cases_eq n 0) [
@@ -211,12 +215,12 @@ pub with_kids-root : (n : ℕ) (change : Forest → Forest) (top : Forest) → (
 with_kids-root n change top other = ap (λ f. node 0 Root f none) (at_other n 0 (change top) (with_kids n change top) other)
 
 -- what putting characters into a text makes of the source
-pub record TextStep (old new : List Node) (n place : ℕ) (piece text : List ℕ) : Type 0 where
+pub record TextStep (old new : List Slot) (n place : ℕ) (piece text : List ℕ) : Type 0 where
   pub arena : IsArena new
   pub source : source_of new ≡ with_tree (source_of old) (with_text n (inserted place piece) (source_of old).tree)
   pub proper : (names : List NameParts) → (text ≢ [] → inserted place piece text ≢ []) → (IsShort text → IsShort (inserted place piece text)) → IsProper names (source_of old) → IsProper names (source_of new)
 
-pub text_step : (old new : List Node) (n place : ℕ) (piece text : List ℕ) → IsArena old → text_at (source_of old) n ≡ Some text → TextInserted old n place piece new → TextStep old new n place piece text
+pub text_step : (old new : List Slot) (n place : ℕ) (piece text : List ℕ) → IsArena old → text_at (source_of old) n ≡ Some text → TextInserted old n place piece new → TextStep old new n place piece text
 text_step old new n place piece text arena e t =
     let at = spot_text (source_of old) n text e in
     let spot : Spot = record { up = at.0; body = Text text; kids = at.1 } in
@@ -224,7 +228,7 @@ text_step old new n place piece text arena e t =
     let a : Around = s.found.around in
     let f : Forest = node n (Text text) at.1 s.found.rest in
     let g : Forest = node n (Text (inserted place piece text)) at.1 s.found.rest in
-    let size : length new ≡ length old = ap length t.is ∙ length-set old n (record { up = t.own.up; body = t.body; kids = t.own.kids }) in
+    let size : length new ≡ length old = ap length t.is ∙ length-set old n (Some (record { up = t.own.up; body = t.body; kids = t.own.kids })) in
     let uses_same : (k : ℕ) → uses k (node 0 Root (plug a g) none) ≡ uses k (node 0 Root arena.top none) = λ k.
     (let h = uses-plug k (below 0 Root a none) f g in let i : uses k (plug (below 0 Root a none) g) ≡ uses k (plug (below 0 Root a none) f) = omega (arith, h) in i)
     ∙ ap (λ u. uses k (node 0 Root u none)) (sym s.found.whole) in
@@ -238,7 +242,11 @@ text_step old new n place piece text arena e t =
       AreStored-outside s.found.rest old new n above (text_keeps old new n place piece t) (omega (arith, nothing, once)) h.2,
     ))
     (λ h. h) (omega arith) (λ k. let h = uses_same k in let i = arena.distinct k in omega (arith, h, i))
-    (λ k within. let h = uses_same k in let i = arena.complete k (omega (arith, within, size)) in omega (arith, h, i)) (omega (arith, size, few)) in
+    (λ k within unused.
+    let h = uses_same k in
+    let was : uses k (node 0 Root arena.top none) ≡ 0 = omega (arith, h, unused) in
+    let here = spot_used None n (node 0 Root arena.top none) spot (ap (spot_in None n) (sym arena.tree) ∙ at.2) in
+    text_keeps old new n place piece t k None (λ same. let e = ap (λ m. uses m (node 0 Root arena.top none)) same in absurd (omega (arith, e, was, here))) (arena.empty k (omega (arith, within, size)) was)) (omega (arith, size, few)) in
     let tree_is : with_text n (inserted place piece) (source_of old).tree ≡ node 0 Root (plug a g) none =
     ap (with_text n (inserted place piece)) arena.tree ∙ with_text-root n (inserted place piece) arena.top ∙ ap (λ u. node 0 Root u none) (s.found.text (inserted place piece)) in
     record {
@@ -295,44 +303,44 @@ numbers-inserted_at zero m b f = refl
 numbers-inserted_at (suc i) m b none = refl
 numbers-inserted_at (suc i) m b (node n body kids rest) = ap (λ ns. named n ∷ ns) (numbers-inserted_at i m b rest)
 
-AreStored-inserted_at : (i m : ℕ) (b : Body) (f : Forest) (nodes : List Node) (up : Option ℕ) → slice_get nodes m ≡ Some (node_for up b none) → AreStored nodes up f →
+AreStored-inserted_at : (i m : ℕ) (b : Body) (f : Forest) (nodes : List Slot) (up : Option ℕ) → slice_get nodes m ≡ Some (slot_for up b none) → AreStored nodes up f →
     AreStored nodes up (inserted_at i (node m b none none) f)
 AreStored-inserted_at zero m b f nodes up is h = (is, tt, h)
 AreStored-inserted_at (suc i) m b none nodes up is h = (is, tt, tt)
 AreStored-inserted_at (suc i) m b (node n body kids rest) nodes up is h = (h.0, h.1, AreStored-inserted_at i m b rest nodes up is h.2)
 
 -- the arena with a leaf more, entry by entry
-leaf_entry : (old new : List Node) (parent : NodeName) (place : ℕ) (body : NodeBody) → LeafAdded old parent place body new → slice_get new (length old) ≡ Some (leaf body parent)
+leaf_entry : (old new : List Slot) (parent : NodeName) (place : ℕ) (body : NodeBody) → LeafAdded old parent place body new → slice_get new (length old) ≡ Some (leaf body parent)
 leaf_entry old new parent place body t =
     ap (λ ns. slice_get ns (length old)) t.is
-    ∙ slice_get_at (set old parent.0 (record { up = t.own.up; body = t.own.body; kids = insert t.own.kids place (named (length old)) })) (leaf body parent) [] (length old)
-    (length-set old parent.0 (record { up = t.own.up; body = t.own.body; kids = insert t.own.kids place (named (length old)) }))
+    ∙ slice_get_at (set old parent.0 (Some (record { up = t.own.up; body = t.own.body; kids = insert t.own.kids place (named (length old)) }))) (leaf body parent) [] (length old)
+    (length-set old parent.0 (Some (record { up = t.own.up; body = t.own.body; kids = insert t.own.kids place (named (length old)) })))
 
-parent_entry : (old new : List Node) (parent : NodeName) (place : ℕ) (body : NodeBody) → LeafAdded old parent place body new → (up : Option ℕ) (b : Body) (kids : Forest) →
-    slice_get old parent.0 ≡ Some (node_for up b kids) →
-    slice_get new parent.0 ≡ Some (record { up = option_map named up; body = stored_body b; kids = insert (map named (numbers kids)) place (named (length old)) })
+parent_entry : (old new : List Slot) (parent : NodeName) (place : ℕ) (body : NodeBody) → LeafAdded old parent place body new → (up : Option ℕ) (b : Body) (kids : Forest) →
+    slice_get old parent.0 ≡ Some (slot_for up b kids) →
+    slice_get new parent.0 ≡ Some (Some (record { up = option_map named up; body = stored_body b; kids = insert (map named (numbers kids)) place (named (length old)) }))
 parent_entry old new parent place body t up b kids e =
-    let own : t.own ≡ node_for up b kids = same_Some t.own (node_for up b kids) (sym t.was ∙ e) in
-    let put : Node = record { up = t.own.up; body = t.own.body; kids = insert t.own.kids place (named (length old)) } in
+    let own : t.own ≡ node_for up b kids = same_Some t.own (node_for up b kids) (same_Some (Some t.own) (slot_for up b kids) (sym t.was ∙ e)) in
+    let put : Slot = Some (record { up = t.own.up; body = t.own.body; kids = insert t.own.kids place (named (length old)) }) in
     ap (λ ns. slice_get ns parent.0) t.is
-    ∙ get_left (set old parent.0 put) (leaf body parent ∷ []) parent.0 put (get_set_same old parent.0 put (slice_get_within old parent.0 t.own t.was))
-    ∙ ap (λ (x : Node). Some (record { up = x.up; body = x.body; kids = insert x.kids place (named (length old)) })) own
+    ∙ get_left (set old parent.0 put) (leaf body parent ∷ []) parent.0 put (get_set_same old parent.0 put (slice_get_within old parent.0 (Some t.own) t.was))
+    ∙ ap (λ (x : Node). Some (Some (record { up = x.up; body = x.body; kids = insert x.kids place (named (length old)) }))) own
 
-leaf_keeps : (old new : List Node) (parent : NodeName) (place : ℕ) (body : NodeBody) → LeafAdded old parent place body new → KeepsOthers parent.0 old new
+leaf_keeps : (old new : List Slot) (parent : NodeName) (place : ℕ) (body : NodeBody) → LeafAdded old parent place body new → KeepsOthers parent.0 old new
 leaf_keeps old new parent place body t k x other e =
-    let put : Node = record { up = t.own.up; body = t.own.body; kids = insert t.own.kids place (named (length old)) } in
+    let put : Slot = Some (record { up = t.own.up; body = t.own.body; kids = insert t.own.kids place (named (length old)) }) in
     ap (λ ns. slice_get ns k) t.is ∙ get_left (set old parent.0 put) (leaf body parent ∷ []) k x (get_set_other old parent.0 k put other ∙ e)
 
-length-leaf_added : (old new : List Node) (parent : NodeName) (place : ℕ) (body : NodeBody) → LeafAdded old parent place body new → length new ≡ length old + 1
+length-leaf_added : (old new : List Slot) (parent : NodeName) (place : ℕ) (body : NodeBody) → LeafAdded old parent place body new → length new ≡ length old + 1
 length-leaf_added old new parent place body t =
-    let put : Node = record { up = t.own.up; body = t.own.body; kids = insert t.own.kids place (named (length old)) } in
+    let put : Slot = Some (record { up = t.own.up; body = t.own.body; kids = insert t.own.kids place (named (length old)) }) in
     let one = ap length t.is in
     let two = length-append (set old parent.0 put) (leaf body parent ∷ []) in
     let three = length-set old parent.0 put in
     omega (arith, one, two, three)
 
 -- what adding a leaf makes of the source
-pub record LeafStep (old new : List Node) (parent place : ℕ) (more : Forest) (up : Option ℕ) (name : NameId) (attributes : List AttrPair) (kids : Forest) : Type 0 where
+pub record LeafStep (old new : List Slot) (parent place : ℕ) (more : Forest) (up : Option ℕ) (name : NameId) (attributes : List AttrPair) (kids : Forest) : Type 0 where
   pub arena : IsArena new
   pub source : source_of new ≡ with_nodes (source_of old) parent place more
   pub proper : (names : List NameParts) → AreNodes names (inserted_at place more kids) → IsProper names (source_of old) → IsProper names (source_of new)
@@ -343,14 +351,14 @@ once_more k m x y e once fresh = elim (cases_eq k m) [
   | inr other ↦ let own = count_other k m other in omega (arith, own, once, e)
 ]
 
-some_more : (k m x y : ℕ) → y ≡ x + (if k == m then 1 else 0) → k < m + 1 → (k < m → 0 < x) → 0 < y
-some_more k m x y e within old = elim (cases_eq k m) [
-  | inl same ↦ let own = count_same k m same in omega (arith, own, e)
-  | inr other ↦ let h = old (omega (arith, within, other)) in omega (arith, h, e)
+none_more : (k m x y : ℕ) → y ≡ x + (if k == m then 1 else 0) → k < m + 1 → y ≡ 0 → (k < m) × (x ≡ 0)
+none_more k m x y e within unused = elim (cases_eq k m) [
+  | inl same ↦ let own = count_same k m same in absurd (omega (arith, own, e, unused))
+  | inr other ↦ (omega (arith, within, other), omega (arith, e, unused))
 ]
 
-pub leaf_step : (old new : List Node) (parent : NodeName) (place : ℕ) (body : NodeBody) (b : Body) (up : Option ℕ) (name : NameId) (attributes : List AttrPair) (kids : Forest) → IsArena old →
-    spot_of (source_of old) parent.0 ≡ Some (record { up = up; body = Element name attributes; kids = kids }) → body ≡ stored_body b → IsLeafBody b → (source_of old).made < 1000000 →
+pub leaf_step : (old new : List Slot) (parent : NodeName) (place : ℕ) (body : NodeBody) (b : Body) (up : Option ℕ) (name : NameId) (attributes : List AttrPair) (kids : Forest) → IsArena old →
+    spot_of (source_of old) parent.0 ≡ Some (record { up = up; body = Element name attributes; kids = kids }) → body ≡ stored_body b → IsLeafBody b → (source_of old).made < node_limit →
     LeafAdded old parent place body new → LeafStep old new parent.0 place (node (length old) b none none) up name attributes kids
 leaf_step old new parent place body b up name attributes kids arena e is-body leaf_is room t =
     let n : ℕ = parent.0 in
@@ -373,12 +381,12 @@ leaf_step old new parent place body b up name attributes kids arena e is-body le
     ∙ ap (λ u. uses k (node 0 Root u none) + (if k == m then 1 else 0)) (sym s.found.whole) in
     let one = count_same n n refl in
     let deep = depth_of-inserted_at place m b kids leaf_is in
-    let entry : slice_get new m ≡ Some (node_for (Some n) b none) = leaf_entry old new parent place body t ∙ ap (λ x. Some (leaf x parent)) is-body in
+    let entry : slice_get new m ≡ Some (slot_for (Some n) b none) = leaf_entry old new parent place body t ∙ ap (λ x. Some (leaf x parent)) is-body in
     let both = changed old new arena n a f g s.found.whole (λ bad. cc) keeps (omega (arith, one)) refl
     (λ above once h.
     let nothing = count_same n n refl in (
       parent_entry old new parent place body t above (Element name attributes) kids h.0
-          ∙ ap (λ ks. Some (record { up = option_map named above; body = stored.Element name attributes; kids = ks })) (sym (numbers-inserted_at place m b kids)),
+          ∙ ap (λ ks. Some (Some (record { up = option_map named above; body = stored.Element name attributes; kids = ks }))) (sym (numbers-inserted_at place m b kids)),
       AreStored-inserted_at place m b kids new (Some n) entry (AreStored-outside kids old new n (Some n) keeps (omega (arith, nothing, once)) h.1),
       AreStored-outside s.found.rest old new n above keeps (omega (arith, nothing, once)) h.2,
     ))
@@ -390,7 +398,11 @@ leaf_step old new parent place body b up name attributes kids arena e is-body le
           let within = stored_within (node 0 Root arena.top none) old None k arena.stored (omega (arith, somewhere)) in
           absurd (omega (arith, within, same))
     ]))
-    (λ k within. some_more k m (uses k (node 0 Root arena.top none)) (uses k (node 0 Root (plug a g) none)) (uses_more k) (omega (arith, within, size)) (arena.complete k))
+    (λ k within unused.
+    let was = none_more k m (uses k (node 0 Root arena.top none)) (uses k (node 0 Root (plug a g) none)) (uses_more k) (omega (arith, within, size)) unused in
+    let gone = was.1 in
+    let here = spot_used None n (node 0 Root arena.top none) spot (ap (spot_in None n) (sym arena.tree) ∙ e) in
+    keeps k None (λ same. let moved = ap (λ q. uses q (node 0 Root arena.top none)) same in absurd (omega (arith, moved, gone, here))) (arena.empty k was.0 gone))
     (omega (arith, size, room, made, some_made)) in
     let tree_is : with_kids n (inserted_at place more) (source_of old).tree ≡ node 0 Root (plug a g) none =
     ap (with_kids n (inserted_at place more)) arena.tree ∙ with_kids-root n (inserted_at place more) arena.top s.other ∙ ap (λ u. node 0 Root u none) (s.found.kids (inserted_at place more)) in
@@ -421,15 +433,15 @@ proper_without_spaces : (names : List NameParts) (spaces : List Space) (source :
 proper_without_spaces names spaces source p = proper_with_spaces names source.spaces (with_spaces spaces source) p
 
 -- where a prim may be applied, its place is in the arena
-pub text_there : (old : List Node) (spaces : List Space) (source : Source) (n place more : ℕ) → IsArena old → with_spaces spaces (source_of old) ≡ source → HasRoom source n place more → HasTextAt old n place
+pub text_there : (old : List Slot) (spaces : List Space) (source : Source) (n place more : ℕ) → IsArena old → with_spaces spaces (source_of old) ≡ source → HasRoom source n place more → HasTextAt old n place
 text_there old spaces source n place more arena is room =
     let at = spot_text (source_of old) n room.0 (ap (λ s. text_at s n) is ∙ room.1) in
     record { own = node_for at.0 (Text room.0) at.1; there = arena_spot old arena n (record { up = at.0; body = Text room.0; kids = at.1 }) at.2; between = room.2 }
 
-pub kids_there : (old : List Node) (spaces : List Space) (source : Source) (n place : ℕ) → IsArena old → with_spaces spaces (source_of old) ≡ source → HasPlace source n place → HasKidsAt old n place
+pub kids_there : (old : List Slot) (spaces : List Space) (source : Source) (n place : ℕ) → IsArena old → with_spaces spaces (source_of old) ≡ source → HasPlace source n place → HasKidsAt old n place
 kids_there old spaces source n place arena is has =
     let spot : Spot = has.0 in
-    let there : slice_get old n ≡ Some (node_for spot.up spot.body spot.kids) = arena_spot old arena n spot (ap (λ s. spot_of s n) is ∙ has.1) in
+    let there : slice_get old n ≡ Some (slot_for spot.up spot.body spot.kids) = arena_spot old arena n spot (ap (λ s. spot_of s n) is ∙ has.1) in
     let reach = has.3 in
     let size = length-map (numbers spot.kids) named in
     record { own = node_for spot.up spot.body spot.kids; there = there; reach = omega (arith, reach, size) }
@@ -441,7 +453,7 @@ still_some text piece place p some none_left =
     let one = ap length p.whole in
     some (nil_from_length text (omega (arith, one, two, length-append p.before p.behind, length-append p.before (piece ++ p.behind), length-append piece p.behind)))
 
-pub still_short : (text piece : List ℕ) (place : ℕ) → IsPlaceIn text place → length (encode_utf8_all text) + length (encode_utf8_all piece) ≤ 16384 → IsShort (inserted place piece text)
+pub still_short : (text piece : List ℕ) (place : ℕ) → IsPlaceIn text place → length (encode_utf8_all text) + length (encode_utf8_all piece) ≤ text_limit → IsShort (inserted place piece text)
 still_short text piece place p room =
     let new = ap (λ t. length (encode_utf8_all t)) (inserted-at text piece place p) in
     let old = ap (λ t. length (encode_utf8_all t)) p.whole in
@@ -462,12 +474,12 @@ place_within text place p =
     omega (arith, old, one, two, at)
 
 -- characters were put into a text
-pub record TextDone (new : List Node) (spaces : List Space) (source : Source) (n place : ℕ) (piece : List ℕ) : Type 0 where
+pub record TextDone (new : List Slot) (spaces : List Space) (source : Source) (n place : ℕ) (piece : List ℕ) : Type 0 where
   pub arena : IsArena new
   pub applied : with_spaces spaces (source_of new) ≡ with_tree source (with_text n (inserted place piece) source.tree)
   pub proper : (names : List NameParts) → IsProper names source → IsProper names (with_spaces spaces (source_of new))
 
-text_done_at : (old new : List Node) (spaces : List Space) (n place : ℕ) (piece : List ℕ) → IsArena old → HasRoom (source_of old) n place (length (encode_utf8_all piece)) → TextInserted old n place piece new →
+text_done_at : (old new : List Slot) (spaces : List Space) (n place : ℕ) (piece : List ℕ) → IsArena old → HasRoom (source_of old) n place (length (encode_utf8_all piece)) → TextInserted old n place piece new →
     TextDone new spaces (with_spaces spaces (source_of old)) n place piece
 text_done_at old new spaces n place piece arena room t =
     let s : TextStep old new n place piece room.0 = text_step old new n place piece room.0 arena room.1 t in
@@ -481,7 +493,7 @@ text_done_at old new spaces n place piece arena room t =
           (s.proper names (still_some room.0 piece place between) (λ _. still_short room.0 piece place between long) (proper_without_spaces names spaces (source_of old) p));
     }
 
-pub text_done : (old new : List Node) (spaces : List Space) (source : Source) (n place : ℕ) (piece : List ℕ) → IsArena old → with_spaces spaces (source_of old) ≡ source →
+pub text_done : (old new : List Slot) (spaces : List Space) (source : Source) (n place : ℕ) (piece : List ℕ) → IsArena old → with_spaces spaces (source_of old) ≡ source →
     HasRoom source n place (length (encode_utf8_all piece)) → TextInserted old n place piece new → TextDone new spaces source n place piece
 text_done old new spaces source n place piece arena is room t =
     subst (λ s. TextDone new spaces s n place piece) is
@@ -530,14 +542,14 @@ element_of (Text text) is = absurd is
 element_of (Comment text) is = absurd is
 
 -- a leaf was added
-pub record LeafDone (new : List Node) (spaces : List Space) (source : Source) (parent place : ℕ) (items : List SubItem) : Type 0 where
+pub record LeafDone (new : List Slot) (spaces : List Space) (source : Source) (parent place : ℕ) (items : List SubItem) : Type 0 where
   pub arena : IsArena new
   pub applied : with_spaces spaces (source_of new) ≡ with_nodes source parent place (subtree items)
   pub proper : (names : List NameParts) → IsProper names source →
       ((spot : Spot) → spot_of source parent ≡ Some spot → AreNodes names (inserted_at place (subtree items) spot.kids)) → IsProper names (with_spaces spaces (source_of new))
 
-leaf_done_at : (old new : List Node) (spaces : List Space) (parent : NodeName) (place : ℕ) (items : List SubItem) (x : SubItem) (body : NodeBody) → IsArena old → HasPlace (source_of old) parent.0 place →
-    IsNewLeaf (source_of old).made items → (source_of old).made < 1000000 → x ≡ get_or items 0 x → IsBodyOf x body → LeafAdded old parent place body new →
+leaf_done_at : (old new : List Slot) (spaces : List Space) (parent : NodeName) (place : ℕ) (items : List SubItem) (x : SubItem) (body : NodeBody) → IsArena old → HasPlace (source_of old) parent.0 place →
+    IsNewLeaf (source_of old).made items → (source_of old).made < node_limit → x ≡ get_or items 0 x → IsBodyOf x body → LeafAdded old parent place body new →
     LeafDone new spaces (with_spaces spaces (source_of old)) parent.0 place items
 leaf_done_at old new spaces parent place items x body arena has fresh room is-x is-body t =
     let spot : Spot = has.0 in
@@ -559,13 +571,13 @@ leaf_done_at old new spaces parent place items x body arena has fresh room is-x 
           (s.proper names (subst (λ more. AreNodes names (inserted_at place more spot.kids)) (sym one) (kids_are spot has.1)) (proper_without_spaces names spaces (source_of old) p));
     }
 
-pub leaf_done : (old new : List Node) (spaces : List Space) (source : Source) (parent : NodeName) (place : ℕ) (items : List SubItem) (x : SubItem) (body : NodeBody) → IsArena old →
-    with_spaces spaces (source_of old) ≡ source → HasPlace source parent.0 place → IsNewLeaf source.made items → source.made < 1000000 → x ≡ get_or items 0 x → IsBodyOf x body →
+pub leaf_done : (old new : List Slot) (spaces : List Space) (source : Source) (parent : NodeName) (place : ℕ) (items : List SubItem) (x : SubItem) (body : NodeBody) → IsArena old →
+    with_spaces spaces (source_of old) ≡ source → HasPlace source parent.0 place → IsNewLeaf source.made items → source.made < node_limit → x ≡ get_or items 0 x → IsBodyOf x body →
     LeafAdded old parent place body new → LeafDone new spaces source parent.0 place items
 leaf_done old new spaces source parent place items x body arena is has fresh room is-x is-body t =
     subst (λ s. LeafDone new spaces s parent.0 place items) is
     (leaf_done_at old new spaces parent place items x body arena (subst (λ s. HasPlace s parent.0 place) (sym is) has) (subst (λ (s : Source). IsNewLeaf s.made items) (sym is) fresh)
-    (subst (λ (s : Source). s.made < 1000000) (sym is) room) is-x is-body t)
+    (subst (λ (s : Source). s.made < node_limit) (sym is) room) is-x is-body t)
 
 -- the two ways that a call may have ended
 pub either_way : {T E P Q X : Type 0} (r : Result T E) → OnOk r P → OnErr r Q → (P → X) → (Q → X) → X

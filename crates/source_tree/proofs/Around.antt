@@ -143,7 +143,7 @@ with_kids-outside n change (node k body kids rest) e =
     ∙ ap (node k body kids) (with_kids-outside n change rest out.2)
 
 -- a number stands in a forest if and only if it has a spot there
-either_spot : (o p : Option Spot) (spot : Spot) → or_else o p ≡ Some spot → (o ≡ Some spot) ⊎ (p ≡ Some spot)
+pub either_spot : (o p : Option Spot) (spot : Spot) → or_else o p ≡ Some spot → (o ≡ Some spot) ⊎ (p ≡ Some spot)
 either_spot None p spot e = inr e
 either_spot (Some x) p spot e = inl e
 

@@ -6,5 +6,11 @@ pub mod Planted
 pub mod Applied
 pub mod ProperKept
 pub mod Undone
+pub mod PutBack
 pub mod Small
+pub mod WholeDocument
+pub mod Printable
+pub mod PrintedBack
+pub mod PrintableGrown
 pub mod TextWritten
+pub mod Lineless

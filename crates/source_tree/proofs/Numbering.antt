@@ -18,7 +18,7 @@ pub numbers-numbered : (k : ℕ) (g : Given) → map named (numbers (numbered k 
 numbers-numbered k given.end = refl
 numbers-numbered k (given.text t rest) = ap (λ ns. named k ∷ ns) (numbers-numbered (k + 1) rest)
 numbers-numbered k (given.comment t rest) = ap (λ ns. named k ∷ ns) (numbers-numbered (k + 1) rest)
-numbers-numbered k (given.element name attributes content rest) = ap (λ ns. named k ∷ ns) (numbers-numbered (k + 1 + count_of content) rest)
+numbers-numbered k (given.element name attributes line content rest) = ap (λ ns. named k ∷ ns) (numbers-numbered (k + 1 + count_of content) rest)
 
 -- a number before the first one, or past the last
 abbrev pub IsOutside : ℕ → ℕ → Given → Type 0
@@ -51,7 +51,7 @@ spot_in-outside up n k (given.text t rest) out =
     at_other n k _ _ (outside_own n k (count_of rest) out) ∙ spot_in-outside up n (k + 1) rest (outside_leaf n k (count_of rest) out)
 spot_in-outside up n k (given.comment t rest) out =
     at_other n k _ _ (outside_own n k (count_of rest) out) ∙ spot_in-outside up n (k + 1) rest (outside_leaf n k (count_of rest) out)
-spot_in-outside up n k (given.element name attributes content rest) out =
+spot_in-outside up n k (given.element name attributes line content rest) out =
     at_other n k _ _ (own_of_two n k (count_of content) (count_of rest) out)
     ∙ ap (λ o. or_else o (spot_in up n (numbered (k + 1 + count_of content) rest))) (spot_in-outside (Some k) n (k + 1) content (outside_content n k (count_of rest) (count_of content) out))
     ∙ spot_in-outside up n (k + 1 + count_of content) rest (outside_rest n k (count_of rest) (count_of content) out)
@@ -66,7 +66,7 @@ uses-outside n k (given.comment t rest) out =
     let own = count_other n k (outside_own n k (count_of rest) out) in
     let later = uses-outside n (k + 1) rest (outside_leaf n k (count_of rest) out) in
     omega (arith, own, later)
-uses-outside n k (given.element name attributes content rest) out =
+uses-outside n k (given.element name attributes line content rest) out =
     let own = count_other n k (own_of_two n k (count_of content) (count_of rest) out) in
     let below = uses-outside n (k + 1) content (outside_content n k (count_of rest) (count_of content) out) in
     let later = uses-outside n (k + 1 + count_of content) rest (outside_rest n k (count_of rest) (count_of content) out) in
@@ -100,7 +100,7 @@ pub uses-numbered : (n k : ℕ) (g : Given) → uses n (numbered k g) ≤ 1
 uses-numbered n k given.end = omega arith
 uses-numbered n k (given.text t rest) = uses_leaf n k rest (cases_eq n k) (uses-numbered n (k + 1) rest)
 uses-numbered n k (given.comment t rest) = uses_leaf n k rest (cases_eq n k) (uses-numbered n (k + 1) rest)
-uses-numbered n k (given.element name attributes content rest) =
+uses-numbered n k (given.element name attributes line content rest) =
     uses_two n k content rest (cases_eq n k) (cases_lt n (k + 1 + count_of content)) (uses-numbered n (k + 1) content) (uses-numbered n (k + 1 + count_of content) rest)
 
 -- each number from the first to the last stands there
@@ -114,7 +114,7 @@ uses-within (given.comment t rest) n k from to = elim (cases_eq n k) [
   | inl same ↦ let own = count_same n k same in omega (arith, own)
   | inr other ↦ let h = uses-within rest n (k + 1) (omega (arith, from, other)) (omega (arith, to)) in omega (arith, h)
 ]
-uses-within (given.element name attributes content rest) n k from to = elim (cases_eq n k) [
+uses-within (given.element name attributes line content rest) n k from to = elim (cases_eq n k) [
   | inl same ↦ let own = count_same n k same in omega (arith, own)
   | inr other ↦ elim (cases_lt n (k + 1 + count_of content)) [
     | inl inside ↦ let h = uses-within content n (k + 1) (omega (arith, from, other)) inside in omega (arith, h)

@@ -1,6 +1,7 @@
 -- What a prim leaves of a proper source is proper.
 use Rattle.std.proofs.Common.{◌≡◌, ℕ, ◌+◌, ◌<◌, ◌≤◌, ◌==◌, inl, inr, Bool, true, false, List, [], ◌∷◌, length, Option, Some, None, encode_utf8_all, if◌then◌else◌, refl, sym, ap, ◌∙◌, subst, arith}
 use Rattle.std.proofs.lemmas.Bool.{cases_eq, false≢true}
+use Rattle.serna_kinds.specs.Limits.{node_limit}
 use Rattle.serna_kinds.specs.Names.{NameParts}
 use Rattle.source_model.specs.Source.{Body, Root, Element, Text, Comment, Forest, none, node, Source}
 use Rattle.source_model.specs.Cells.{Spot, spot_in, spot_of, or_else}
@@ -20,11 +21,11 @@ use Rattle.serna_kinds.specs.declared.cells.NodeName.{NodeName}
 use Rattle.serna_kinds.specs.declared.cells.AttrPair.{AttrPair}
 
 -- a node of a proper source below the document node
-record Below (s : Source) (top : Forest) (n : ℕ) (spot : Spot) : Type 0 where
-  other : n ≡ 0 → ⊥
-  found : Found n spot top
+pub record Below (s : Source) (top : Forest) (n : ℕ) (spot : Spot) : Type 0 where
+  pub other : n ≡ 0 → ⊥
+  pub found : Found n spot top
 
-below_top : (names : List NameParts) (s : Source) (p : IsProper names s) (n : ℕ) (spot : Spot) → spot_of s n ≡ Some spot → (spot.body ≡ Root → ⊥) → Below s p.top n spot
+pub below_top : (names : List NameParts) (s : Source) (p : IsProper names s) (n : ℕ) (spot : Spot) → spot_of s n ≡ Some spot → (spot.body ≡ Root → ⊥) → Below s p.top n spot
 below_top names s p n spot e inner =
     let document : Spot = record { up = None; body = Root; kids = p.top } in
     let at : spot_in None n (node 0 Root p.top none) ≡ Some spot = ap (spot_in None n) (sym p.rooted) ∙ e in
@@ -73,7 +74,7 @@ text_kept names s n place piece p room =
 
 -- a source with a new text or comment
 leaf_kept : (names : List NameParts) (s : Source) (n place m : ℕ) (b : Body) (up : Option ℕ) (name : NameId) (attributes : List AttrPair) (kids : Forest) → IsProper names s →
-    spot_of s n ≡ Some (record { up = up; body = Element name attributes; kids = kids }) → m ≡ s.made + 1 → s.made < 1000000 → IsLeafBody b → AreNodes names (inserted_at place (node m b none none) kids) →
+    spot_of s n ≡ Some (record { up = up; body = Element name attributes; kids = kids }) → m ≡ s.made + 1 → s.made < node_limit → IsLeafBody b → AreNodes names (inserted_at place (node m b none none) kids) →
     IsProper names (with_nodes s n place (node m b none none))
 leaf_kept names s n place m b up name attributes kids p is-spot number room leaf_is kids_are =
     let more : Forest = node m b none none in
@@ -125,23 +126,23 @@ element_body (Element name attributes) is = (name, attributes, refl)
 element_body (Text t) is = absurd is
 element_body (Comment t) is = absurd is
 
-element_at : (spot : Spot) → IsElement spot.body → (name : NameId) × (attributes : List AttrPair) × (spot.body ≡ Element name attributes)
+pub element_at : (spot : Spot) → IsElement spot.body → (name : NameId) × (attributes : List AttrPair) × (spot.body ≡ Element name attributes)
 element_at spot is = element_body spot.body is
 
-child_kept : (names : List NameParts) (s : Source) (n place m : ℕ) (b : Body) → IsProper names s → (has : HasPlace s n place) → m ≡ s.made + 1 → s.made < 1000000 → IsLeafBody b →
+child_kept : (names : List NameParts) (s : Source) (n place m : ℕ) (b : Body) → IsProper names s → (has : HasPlace s n place) → m ≡ s.made + 1 → s.made < node_limit → IsLeafBody b →
     ((spot : Spot) → spot_of s n ≡ Some spot → AreNodes names (inserted_at place (node m b none none) spot.kids)) → IsProper names (with_nodes s n place (node m b none none))
 child_kept names s n place m b p has number room leaf_is keeps =
     let e = element_at has.0 has.2 in
     leaf_kept names s n place m b has.0.up e.0 e.1 has.0.kids p (has.1 ∙ ap (λ body. Some (record { up = has.0.up; body = body; kids = has.0.kids })) e.2) number room leaf_is (keeps has.0 has.1)
 
-abbrev are_none : List SubItem → Bool
+abbrev pub are_none : List SubItem → Bool
 are_none [] = true
 are_none (x ∷ items) = false
 
-some_items : (x : SubItem) (items : List SubItem) → x ∷ items ≡ [] → ⊥
+pub some_items : (x : SubItem) (items : List SubItem) → x ∷ items ≡ [] → ⊥
 some_items x items e = false≢true (ap are_none e)
 
-insert_kept : (names : List NameParts) (s : Source) (n : NodeName) (place : ℕ) (items : List SubItem) → IsProper names s → HasPlace s n.0 place → IsNewLeaf s.made items → s.made < 1000000 →
+insert_kept : (names : List NameParts) (s : Source) (n : NodeName) (place : ℕ) (items : List SubItem) → IsProper names s → HasPlace s n.0 place → IsNewLeaf s.made items → s.made < node_limit →
     KeepsProper names (InsertChild n place items) s → IsProper names (applied (InsertChild n place items) s)
 insert_kept names s n place [] p has new room keeps = absurd new
 insert_kept names s n place (item.Begin number name attributes ∷ items) p has new room keeps = absurd new

@@ -1,6 +1,7 @@
 -- The document of the tests, its source, and what may be applied to it.
 use Rattle.std.proofs.Common.{◌≡◌, ℕ, zero, suc, ◌<◌, slice_index, List, [], ◌∷◌, length, Some, encode_utf8_all, codes, refl, sym, subst, arith}
 use Rattle.std.specs.Str.{chars, is_utf8}
+use Rattle.serna_kinds.specs.Limits.{node_limit}
 use Rattle.serna_kinds.specs.Names.{NameParts, Space, id_of}
 use Rattle.serna_kinds.specs.Qualified.{element_name}
 use Rattle.tree_lines.specs.Written.{Written, Attribute}
@@ -32,17 +33,17 @@ pub is_document : IsDocument document
 unfolding chars is_utf8 lib.Utf8.encode
 is_document = record { top = tt; parted = ((refl, (refl, (refl, tt))), (tt, tt, tt), tt); faultless = refl }
 
-pub begun_text : (table : List NameParts) (spaces : List Space) → text_at (begun spaces (given_of table document)) 3 ≡ Some (codes "t")
+pub begun_text : (table : List NameParts) (spaces : List Space) (numbers : List ℕ) → text_at (begun spaces (given_of table numbers document)) 3 ≡ Some (codes "t")
 unfolding begun chars is_utf8 lib.Utf8.encode
-begun_text table spaces = refl
+begun_text table spaces numbers = refl
 
-pub begun_inner : (table : List NameParts) (spaces : List Space) → HasPlace (begun spaces (given_of table document)) 4 0
+pub begun_inner : (table : List NameParts) (spaces : List Space) (numbers : List ℕ) → HasPlace (begun spaces (given_of table numbers document)) 4 0
 unfolding begun chars is_utf8 lib.Utf8.encode
-begun_inner table spaces = (record { up = Some 2; body = Element (id_of table (element_name (spaces_of document) (codes "f"))) []; kids = none }, refl, tt, omega arith)
+begun_inner table spaces numbers = (record { up = Some 2; body = Element (id_of table (element_name (spaces_of document) (codes "f"))) []; kids = none }, refl, tt, omega arith)
 
-pub begun_made : (table : List NameParts) (spaces : List Space) → (begun spaces (given_of table document)).made ≡ 5
+pub begun_made : (table : List NameParts) (spaces : List Space) (numbers : List ℕ) → (begun spaces (given_of table numbers document)).made ≡ 5
 unfolding begun chars is_utf8 lib.Utf8.encode
-begun_made table spaces = refl
+begun_made table spaces numbers = refl
 
 room : (source : Source) → text_at source 3 ≡ Some (codes "t") → HasRoom source 3 1 (length (encode_utf8_all (codes "a")))
 unfolding lib.Utf8.encode
@@ -52,6 +53,6 @@ pub has_room : (source : Source) (piece : List ℕ) → text_at source 3 ≡ Som
 has_room source piece there is = subst (λ p. HasRoom source 3 1 (length (encode_utf8_all p))) (sym is) (room source there)
 
 pub may_add : (source : Source) (piece : List ℕ) (items : List SubItem) → HasPlace source 4 0 → source.made ≡ 5 → items ≡ item.Comment (record { 0 = 6 }) piece ∷ [] →
-    HasPlace source 4 0 × IsNewLeaf source.made items × (source.made < 1000000)
+    HasPlace source 4 0 × IsNewLeaf source.made items × (source.made < node_limit)
 may_add source piece items place made is =
     (place, subst (λ more. IsNewLeaf source.made more) (sym is) (omega (arith, made), refl), omega (arith, made))

@@ -11,12 +11,12 @@ use Rattle.source_tree.specs.declared.prim.Primitive.{Primitive}
 use Rattle.source_tree.specs.declared.prim.Primitive.TheVariants.{InsertText, RemoveText, InsertChild, RemoveChild}
 use Rattle.source_tree.specs.declared.prim.SubItem.{SubItem}
 use Rattle.source_tree.specs.declared.prim.SubItem.TheVariants as item
-use Rattle.source_tree.specs.Prims.{HasPlace, IsNewLeaf, subtree, applied, IsUndoing, MayApply}
+use Rattle.source_tree.specs.Prims.{HasPlace, IsNewLeaf, subtree, applied, inverse, MayApply}
 use Rattle.source_tree.proofs.Around.{at_same, at_other, count_same, Around, below, beside, plug, uses-plug, uses-le-plug, with_text-outside, with_kids-outside, Found, found}
 use Rattle.source_tree.proofs.Applied.{other_number, other_behind, spot_text}
 
 -- the changes of the one node of a number, where that node stands
-with_kids-plug : (a : Around) (n : ℕ) (body : Body) (kids rest : Forest) (change : Forest → Forest) → uses n (plug a (node n body none rest)) ≤ 1 →
+pub with_kids-plug : (a : Around) (n : ℕ) (body : Body) (kids rest : Forest) (change : Forest → Forest) → uses n (plug a (node n body none rest)) ≤ 1 →
     with_kids n change (plug a (node n body kids rest)) ≡ plug a (node n body (change kids) rest)
 with_kids-plug Around.here n body kids rest change once =
     let own = count_same n n refl in
@@ -36,7 +36,7 @@ with_kids-plug (beside k b inner a) n body kids rest change once =
     ap (λ f. node k b f (with_kids n change (plug a (node n body kids rest)))) (at_other n k (change inner) (with_kids n change inner) (λ e. o.0 (sym e)) ∙ with_kids-outside n change inner o.1)
     ∙ ap (node k b inner) (with_kids-plug a n body kids rest change o.2)
 
-with_text-plug : (a : Around) (n : ℕ) (body : Body) (kids rest : Forest) (change : List ℕ → List ℕ) → uses n (plug a (node n body kids rest)) ≤ 1 →
+pub with_text-plug : (a : Around) (n : ℕ) (body : Body) (kids rest : Forest) (change : List ℕ → List ℕ) → uses n (plug a (node n body kids rest)) ≤ 1 →
     with_text n change (plug a (node n body kids rest)) ≡ plug a (node n (with_characters change body) kids rest)
 with_text-plug Around.here n body kids rest change once =
     let own = count_same n n refl in
@@ -113,22 +113,27 @@ one_node made (item.Text number text ∷ items) is = (number.0, Text text, ap (�
 one_node made (item.Comment number text ∷ items) is = (number.0, Comment text, ap (λ rest. subtree (item.Comment number text ∷ rest)) is.1)
 one_node made (item.Finish ∷ items) is = absurd is
 
-pub undone_tree : (source : Source) (prim undoing : Primitive) → ((n : ℕ) → uses n source.tree ≤ 1) → MayApply prim source → IsUndoing prim undoing → (applied undoing (applied prim source)).tree ≡ source.tree
-undone_tree source (InsertText text place piece) undoing once may is =
+pub undone_tree : (source : Source) (prim : Primitive) → ((n : ℕ) → uses n source.tree ≤ 1) → MayApply prim source → (applied (inverse prim source) (applied prim source)).tree ≡ source.tree
+undone_tree source (InsertText text place piece) once may =
     let at = spot_text source text.0 may.0 may.1 in
-    ap (λ u. (applied u (applied (InsertText text place piece) source)).tree) is
-    ∙ text_undone source.tree text.0 place piece may.0 at.0 at.1 (once text.0) may.2 (found None text.0 source.tree (record { up = at.0; body = Text may.0; kids = at.1 }) (once text.0) at.2)
-undone_tree source (RemoveText text from to) undoing once may is = absurd may
-undone_tree source (InsertChild parent place items) undoing once may is =
+    text_undone source.tree text.0 place piece may.0 at.0 at.1 (once text.0) may.2 (found None text.0 source.tree (record { up = at.0; body = Text may.0; kids = at.1 }) (once text.0) at.2)
+undone_tree source (RemoveText text from to) once may = absurd may
+undone_tree source (InsertChild parent place items) once may =
     let has : HasPlace source parent.0 place = may.0 in
     let one = one_node source.made items may.1 in
-    ap (λ u. (applied u (applied (InsertChild parent place items) source)).tree) is
-    ∙ ap (λ more. with_kids parent.0 (removed_at place) (with_kids parent.0 (inserted_at place more) source.tree)) one.2
+    ap (λ more. with_kids parent.0 (removed_at place) (with_kids parent.0 (inserted_at place more) source.tree)) one.2
     ∙ child_undone source.tree parent.0 place one.0 one.1 has.0 (once parent.0) has.3 (found None parent.0 source.tree has.0 (once parent.0) has.1)
-undone_tree source (RemoveChild parent place) undoing once may is = absurd may
+undone_tree source (RemoveChild parent place) once may = absurd may
 
-pub undone_spaces : (source : Source) (prim undoing : Primitive) → MayApply prim source → IsUndoing prim undoing → (applied undoing (applied prim source)).spaces ≡ source.spaces
-undone_spaces source (InsertText text place piece) undoing may is = ap (λ u. (applied u (applied (InsertText text place piece) source)).spaces) is
-undone_spaces source (RemoveText text from to) undoing may is = absurd may
-undone_spaces source (InsertChild parent place items) undoing may is = ap (λ u. (applied u (applied (InsertChild parent place items) source)).spaces) is
-undone_spaces source (RemoveChild parent place) undoing may is = absurd may
+pub undone_spaces : (source : Source) (prim : Primitive) → (applied (inverse prim source) (applied prim source)).spaces ≡ source.spaces
+undone_spaces source (InsertText text place piece) = refl
+undone_spaces source (RemoveText text from to) = refl
+undone_spaces source (InsertChild parent place items) = refl
+undone_spaces source (RemoveChild parent place) = refl
+
+-- the count of numbers ever made does not fall
+pub undone_made : (source : Source) (prim : Primitive) → source.made ≤ (applied (inverse prim source) (applied prim source)).made
+undone_made source (InsertText text place piece) = omega arith
+undone_made source (RemoveText text from to) = omega arith
+undone_made source (InsertChild parent place items) = omega arith
+undone_made source (RemoveChild parent place) = omega arith

@@ -11,7 +11,7 @@ abbrev pub numbered : ℕ → Given → Forest
 numbered k given.end = source.none
 numbered k (given.text t rest) = source.node k (source.Text t) source.none (numbered (k + 1) rest)
 numbered k (given.comment t rest) = source.node k (source.Comment t) source.none (numbered (k + 1) rest)
-numbered k (given.element name attributes content rest) =
+numbered k (given.element name attributes line content rest) =
     source.node k (source.Element name attributes) (numbered (k + 1) content) (numbered (k + 1 + count_of content) rest)
 
 unfoldable pub begun : List Space → Given → Source

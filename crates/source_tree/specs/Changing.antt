@@ -8,7 +8,7 @@ use Rattle.source_tree.specs.declared.prim.SubItem.TheVariants as item
 use Rattle.source_tree.specs.declared.node.Node.{Node}
 use Rattle.source_tree.specs.declared.node.NodeBody.{NodeBody}
 use Rattle.source_tree.specs.declared.node.NodeBody.TheVariants as stored
-use Rattle.source_tree.specs.Arena.{leaf}
+use Rattle.source_tree.specs.Arena.{Slot, leaf}
 
 -- a text with such a place
 abbrev pub HasPlaceIn : NodeBody → ℕ → Type 0
@@ -25,30 +25,30 @@ IsInserted place piece (stored.Text text) new = new ≡ stored.Text (inserted pl
 IsInserted place piece (stored.Comment text) new = ⊥
 
 -- the node of a number is a text with such a place
-pub record HasTextAt (nodes : List Node) (n place : ℕ) : Type 0 where
+pub record HasTextAt (nodes : List Slot) (n place : ℕ) : Type 0 where
   pub own : Node
-  pub there : slice_get nodes n ≡ Some own
+  pub there : slice_get nodes n ≡ Some (Some own)
   pub between : HasPlaceIn own.body place
 
 -- the arena with a piece put into the text of a number
-pub record TextInserted (old : List Node) (n place : ℕ) (piece : List ℕ) (new : List Node) : Type 0 where
+pub record TextInserted (old : List Slot) (n place : ℕ) (piece : List ℕ) (new : List Slot) : Type 0 where
   pub own : Node
   pub body : NodeBody
-  pub was : slice_get old n ≡ Some own
+  pub was : slice_get old n ≡ Some (Some own)
   pub put : IsInserted place piece own.body body
-  pub is : new ≡ slice_set old n (record { up = own.up; body = body; kids = own.kids })
+  pub is : new ≡ slice_set old n (Some (record { up = own.up; body = body; kids = own.kids }))
 
 -- the node of a number has so many children
-pub record HasKidsAt (nodes : List Node) (n place : ℕ) : Type 0 where
+pub record HasKidsAt (nodes : List Slot) (n place : ℕ) : Type 0 where
   pub own : Node
-  pub there : slice_get nodes n ≡ Some own
+  pub there : slice_get nodes n ≡ Some (Some own)
   pub reach : place ≤ length own.kids
 
 -- the arena with one node more, whose number is put among the children of another
-pub record LeafAdded (old : List Node) (parent : NodeName) (place : ℕ) (body : NodeBody) (new : List Node) : Type 0 where
+pub record LeafAdded (old : List Slot) (parent : NodeName) (place : ℕ) (body : NodeBody) (new : List Slot) : Type 0 where
   pub own : Node
-  pub was : slice_get old parent.0 ≡ Some own
-  pub is : new ≡ slice_set old parent.0 (record { up = own.up; body = own.body; kids = insert own.kids place (named (length old)) }) ++ leaf body parent ∷ []
+  pub was : slice_get old parent.0 ≡ Some (Some own)
+  pub is : new ≡ slice_set old parent.0 (Some (record { up = own.up; body = own.body; kids = insert own.kids place (named (length old)) })) ++ leaf body parent ∷ []
 
 -- a text or a comment
 abbrev pub IsLeaf : SubItem → Type 0

@@ -3,6 +3,8 @@ pub mod Begun
 pub mod Changing
 pub mod Growing
 pub mod Prims
+pub mod Seen
 pub mod Places
+pub mod Printing
 pub mod Unnumbered
 pub mod Lines

@@ -1,10 +1,12 @@
 -- The smallest changes of a source, and what takes each back (this project's own).
-use Rattle.std.specs.Prelude.{◌≡◌, ℕ, ◌+◌, ◌<◌, ◌≤◌, List, [], ◌∷◌, max, length, Some, encode_utf8_all}
+use Rattle.std.specs.Prelude.{◌≡◌, ℕ, ◌+◌, ◌<◌, ◌≤◌, List, [], ◌∷◌, ◌++◌, max, length, Some, encode_utf8_all}
+use Rattle.std.specs.Option.{option_map_or}
 use Rattle.serna_kinds.specs.Texts.{IsPlaceIn, inserted, removed}
 use Rattle.source_model.specs.Source.{Body, Root, Element, Text, Comment, Forest, none, node, Source, numbers}
-use Rattle.source_model.specs.Cells.{Spot, spot_of}
-use Rattle.source_model.specs.Changes.{text_at, with_text, with_kids, inserted_at, removed_at, greatest}
+use Rattle.source_model.specs.Cells.{Spot, named, spot_of}
+use Rattle.source_model.specs.Changes.{text_at, between, with_text, with_kids, inserted_at, removed_at, alone_at, greatest}
 use Rattle.source_model.specs.Proper.{AreNodes}
+use Rattle.serna_kinds.specs.Limits.{text_limit, node_limit}
 use Rattle.serna_kinds.specs.Names.{NameParts}
 use Rattle.source_tree.specs.declared.prim.Primitive.{Primitive}
 use Rattle.source_tree.specs.declared.prim.Primitive.TheVariants.{InsertText, RemoveText, InsertChild, RemoveChild}
@@ -53,18 +55,32 @@ applied (RemoveText text from to) source = with_tree source (with_text text.0 (r
 applied (InsertChild parent place items) source = with_nodes source parent.0 place (subtree items)
 applied (RemoveChild parent place) source = with_tree source (with_kids parent.0 (removed_at place) source.tree)
 
--- what takes an insertion back
-abbrev pub IsUndoing : Primitive → Primitive → Type 0
-IsUndoing (InsertText text place piece) undoing = undoing ≡ RemoveText text place (place + length (encode_utf8_all piece))
-IsUndoing (RemoveText text from to) undoing = ⊥
-IsUndoing (InsertChild parent place items) undoing = undoing ≡ RemoveChild parent place
-IsUndoing (RemoveChild parent place) undoing = ⊥
+-- a node's items in front of those that follow it, where its children have these
+abbrev pub own_items : ℕ → Body → List SubItem → List SubItem → List SubItem
+own_items n Root inner later = later
+own_items n (Element name attributes) inner later = item.Begin (named n) name attributes ∷ (inner ++ (item.Finish ∷ later))
+own_items n (Text text) inner later = item.Text (named n) text ∷ later
+own_items n (Comment text) inner later = item.Comment (named n) text ∷ later
+
+-- the items of neighbours and of all below them, with their numbers and attributes
+abbrev pub items_of : Forest → List SubItem
+items_of none = []
+items_of (node n body kids rest) = own_items n body (items_of kids) (items_of rest)
+
+-- the prim that takes a prim back, told of the source before it: what was put in goes out again, and what was taken out, as it stood
+-- there, comes in again
+abbrev pub inverse : Primitive → Source → Primitive
+inverse (InsertText text place piece) source = RemoveText text place (place + length (encode_utf8_all piece))
+inverse (RemoveText text from to) source = InsertText text from (option_map_or (between from to) (text_at source text.0) [])
+inverse (InsertChild parent place items) source = RemoveChild parent place
+inverse (RemoveChild parent place) source =
+    InsertChild parent place (option_map_or (λ (spot : Spot). items_of (alone_at place spot.kids)) (spot_of source parent.0) [])
 
 -- a text or a comment of the next number
 abbrev pub IsNewLeaf : ℕ → List SubItem → Type 0
 IsNewLeaf made [] = ⊥
 IsNewLeaf made (item.Begin number name attributes ∷ items) = ⊥
-IsNewLeaf made (item.Text number text ∷ items) = (number.0 ≡ made + 1) × (length (encode_utf8_all text) ≤ 16384) × (items ≡ [])
+IsNewLeaf made (item.Text number text ∷ items) = (number.0 ≡ made + 1) × (length (encode_utf8_all text) ≤ text_limit) × (items ≡ [])
 IsNewLeaf made (item.Comment number text ∷ items) = (number.0 ≡ made + 1) × (items ≡ [])
 IsNewLeaf made (item.Finish ∷ items) = ⊥
 
@@ -80,14 +96,14 @@ HasPlace source n place = (spot : Spot) × (spot_of source n ≡ Some spot) × I
 
 -- a text node with such a place, and room for so many bytes more
 abbrev pub HasRoom : Source → ℕ → ℕ → ℕ → Type 0
-HasRoom source n place more = (text : List ℕ) × (text_at source n ≡ Some text) × IsPlaceIn text place × (length (encode_utf8_all text) + more ≤ 16384)
+HasRoom source n place more = (text : List ℕ) × (text_at source n ≡ Some text) × IsPlaceIn text place × (length (encode_utf8_all text) + more ≤ text_limit)
 
 -- when a prim may be applied: its place is there, and the limits hold in what it leaves. The insertions can be applied so far, and a
 -- subtree is a new text or comment.
 abbrev pub MayApply : Primitive → Source → Type 0
 MayApply (InsertText text place piece) source = HasRoom source text.0 place (length (encode_utf8_all piece))
 MayApply (RemoveText text from to) source = ⊥
-MayApply (InsertChild parent place items) source = HasPlace source parent.0 place × IsNewLeaf source.made items × (source.made < 1000000)
+MayApply (InsertChild parent place items) source = HasPlace source parent.0 place × IsNewLeaf source.made items × (source.made < node_limit)
 MayApply (RemoveChild parent place) source = ⊥
 
 -- a prim keeps a source proper: more characters always do, and nodes where the children with them are proper

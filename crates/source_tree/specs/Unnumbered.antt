@@ -1,4 +1,4 @@
--- The document of a source without the numbers of its nodes, which is what its tree lines say.
+-- The document of a source without the numbers of its nodes, which is what its tree lines say. The number of each line is 0.
 use Rattle.tree_lines.specs.Given.{Given}
 use Rattle.tree_lines.specs.Given as given
 use Rattle.source_model.specs.Source.{Forest, Source}
@@ -8,7 +8,7 @@ use Rattle.source_model.specs.Source as source
 abbrev pub unnumbered : Forest → Given
 unnumbered source.none = given.end
 unnumbered (source.node n source.Root kids rest) = unnumbered rest
-unnumbered (source.node n (source.Element name attributes) kids rest) = given.element name attributes (unnumbered kids) (unnumbered rest)
+unnumbered (source.node n (source.Element name attributes) kids rest) = given.element name attributes 0 (unnumbered kids) (unnumbered rest)
 unnumbered (source.node n (source.Text t) kids rest) = given.text t (unnumbered rest)
 unnumbered (source.node n (source.Comment t) kids rest) = given.comment t (unnumbered rest)
 

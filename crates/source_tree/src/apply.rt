@@ -1,8 +1,8 @@
 ghost use Rattle.std.specs.Prelude.{◌≡◌, ◌+◌, ◌^◌, ◌<◌, ◌≤◌, IfOk, OnOk, OnErr, length, insert};
-ghost use Rattle.source_tree.specs.Prims.{applied, IsUndoing, MayApply, KeepsProper};
+ghost use Rattle.source_tree.specs.Prims.{applied, inverse, MayApply, KeepsProper};
 ghost use Rattle.source_tree.specs.Changing.{HasPlaceIn, IsInserted, HasTextAt, TextInserted, HasKidsAt, LeafAdded, IsLeaf, IsBodyOf};
 
-use crate::node::{Node, NodeBody};
+use crate::node::{Node, NodeBody, node_at};
 use crate::{Primitive, SourceTree, SubItem, Undoing};
 use serna_kinds::{Chars, Items, NoMemory, NodeName};
 use std::alloc::Global;
@@ -18,15 +18,15 @@ impl SourceTree {
     ///
     /// The two insertions can be applied so far, and the subtree of one is a new text or comment.
     pub fn apply(&mut self, alloc: Global, prim: &Primitive) -> Result<Undoing, NoMemory>
-        requires { MayApply prim.now self.old }
-        ensures applied { OnOk result (self.new ≡ applied prim.now self.old) }
-        ensures undoing { IfOk result (IsUndoing prim.now) }
+        requires { MayApply prim.now self.old.source }
+        ensures applied { OnOk result (self.new.source ≡ applied prim.now self.old.source) }
+        ensures undoing { IfOk result (λ undoing. undoing ≡ inverse prim.now self.old.source) }
         ensures kept { OnErr result (self.new ≡ self.old) }
-        ensures proper { OnOk result ((names : List NameParts) → IsProper names self.old → KeepsProper names prim.now self.old → IsProper names self.new) }
+        ensures proper { OnOk result ((names : List NameParts) → IsProper names self.old.source → KeepsProper names prim.now self.old.source → IsProper names self.new.source) }
     {
         match prim {
             Primitive::InsertText(text, place, piece) => {
-                let end = self.insert_text(*text, *place, piece)?;
+                let end = self.insert_text(alloc, *text, *place, piece)?;
                 Ok(Primitive::RemoveText(*text, *place, end))
             }
             Primitive::InsertChild(parent, place, items) => {
@@ -41,17 +41,18 @@ impl SourceTree {
     /// Puts characters into a text node. Gives the place behind them.
     fn insert_text(
         &mut self,
+        alloc: Global,
         text: NodeName,
         place: usize,
         piece: &Chars,
     ) -> Result<usize, NoMemory>
-        requires { MayApply (InsertText text place piece.now) self.old }
-        ensures applied { OnOk result (self.new ≡ applied (InsertText text place piece.now) self.old) }
+        requires { MayApply (InsertText text place piece.now) self.old.source }
+        ensures applied { OnOk result (self.new.source ≡ applied (InsertText text place piece.now) self.old.source) }
         ensures end { IfOk result (λ end. end ≡ place + length (encode_utf8_all piece.now)) }
         ensures kept { OnErr result (self.new ≡ self.old) }
-        ensures proper { OnOk result ((names : List NameParts) → IsProper names self.old → IsProper names self.new) }
+        ensures proper { OnOk result ((names : List NameParts) → IsProper names self.old.source → IsProper names self.new.source) }
     {
-        insert_characters(&mut self.nodes, text, place, piece)?;
+        insert_characters(alloc, &mut self.nodes, text, place, piece)?;
         Ok(place + piece.as_text().len())
     }
 
@@ -63,10 +64,10 @@ impl SourceTree {
         place: usize,
         items: &[SubItem],
     ) -> Result<(), NoMemory>
-        requires { MayApply (InsertChild parent place items.now) self.old }
-        ensures applied { OnOk result (self.new ≡ applied (InsertChild parent place items.now) self.old) }
+        requires { MayApply (InsertChild parent place items.now) self.old.source }
+        ensures applied { OnOk result (self.new.source ≡ applied (InsertChild parent place items.now) self.old.source) }
         ensures kept { OnErr result (self.new ≡ self.old) }
-        ensures proper { OnOk result ((names : List NameParts) → IsProper names self.old → KeepsProper names (InsertChild parent place items.now) self.old → IsProper names self.new) }
+        ensures proper { OnOk result ((names : List NameParts) → IsProper names self.old.source → KeepsProper names (InsertChild parent place items.now) self.old.source → IsProper names self.new.source) }
     {
         let body = leaf_body(&items[0])?;
         add_leaf(alloc, &mut self.nodes, parent, place, body)
@@ -75,7 +76,8 @@ impl SourceTree {
 
 /// Puts characters into the text of a number.
 fn insert_characters(
-    nodes: &mut Vec<Node>,
+    alloc: Global,
+    nodes: &mut Vec<Option<Node>>,
     text: NodeName,
     place: usize,
     piece: &Chars,
@@ -84,17 +86,25 @@ fn insert_characters(
     ensures inserted { OnOk result (TextInserted nodes.old.items text.0 place piece.now nodes.new.items) }
     ensures kept { OnErr result (nodes.new.items ≡ nodes.old.items) }
 {
-    insert_into(&mut nodes[text.0 as usize].body, place, piece)
+    match &mut nodes[text.0 as usize] {
+        Some(node) => insert_into(alloc, &mut node.body, place, piece),
+        None => unreachable!(),
+    }
 }
 
 /// Puts characters into a text.
-fn insert_into(body: &mut NodeBody, place: usize, piece: &Chars) -> Result<(), NoMemory>
+fn insert_into(
+    alloc: Global,
+    body: &mut NodeBody,
+    place: usize,
+    piece: &Chars,
+) -> Result<(), NoMemory>
     requires { HasPlaceIn body.old place }
     ensures inserted { OnOk result (IsInserted place piece.now body.old body.new) }
     ensures kept { OnErr result (body.new ≡ body.old) }
 {
     match body {
-        NodeBody::Text(characters) => characters.insert(place, piece),
+        NodeBody::Text(characters) => characters.insert(alloc, place, piece),
         NodeBody::Root => unreachable!(),
         NodeBody::Element(_, _) => unreachable!(),
         NodeBody::Comment(_) => unreachable!(),
@@ -117,7 +127,7 @@ fn leaf_body(item: &SubItem) -> Result<NodeBody, NoMemory>
 /// Adds a node, and puts its number among the children of another.
 fn add_leaf(
     alloc: Global,
-    nodes: &mut Vec<Node>,
+    nodes: &mut Vec<Option<Node>>,
     parent: NodeName,
     place: usize,
     body: NodeBody,
@@ -129,13 +139,16 @@ fn add_leaf(
 {
     let number = NodeName(nodes.len() as u32);
     let own = parent.0 as usize;
-    let kids = with_number(alloc, nodes[own].kids.as_slice(), place, number)?;
-    nodes.push(Node {
+    let kids = node_at(nodes, parent).kids.as_slice();
+    let kids = with_number(alloc, kids, place, number)?;
+    nodes.push(Some(Node {
         up: Some(parent),
         body,
         kids: Items::new(alloc),
-    })?;
-    nodes[own].kids = kids;
+    }))?;
+    if let Some(node) = &mut nodes[own] {
+        node.kids = kids;
+    }
     Ok(())
 }
 

@@ -1,6 +1,5 @@
-ghost use Rattle.std.specs.Prelude.{◌≡◌, ◌+◌, ◌*◌, ◌^◌, ◌<◌, ◌≤◌, IfOk, length, map, Some, ◌-◌, IsTrue, ◌↔◌};
+ghost use Rattle.std.specs.Prelude.{◌≡◌, ◌+◌, ◌*◌, ◌^◌, ◌<◌, ◌≤◌, IfOk, length, Some, ◌-◌, IsTrue, ◌↔◌};
 ghost use Rattle.tree_lines.specs.Given.{Given, items_of};
-ghost use Rattle.tree_lines.specs.Tokens.{without_line};
 ghost use Rattle.source_tree.specs.Growing.{Plants, PlantsAll, BeginsAt, LeafAt};
 ghost use Rattle.tree_lines.specs.declared.tree.TreeItem.TheVariants.{Finish};
 ghost use Rattle.source_tree.specs.Arena.{arena_of};
@@ -20,29 +19,29 @@ impl SourceTree {
 
     /// The source of a document that was read, with what it declares. Its nodes are numbered from 1 in document order.
     pub fn begin(alloc: Global, tree: &Tree) -> Result<SourceTree, AllocError>
-        ensures source { IfOk result (λ s. (given : Given) → map without_line tree.now.items ≡ items_of given → s ≡ begun tree.now.spaces given) }
-        ensures proper { IfOk result (λ s. (names : List NameParts) → AreNamed names tree.now.items → IsProper names s) }
+        ensures source { IfOk result (λ s. (given : Given) → tree.now.items ≡ items_of given → s.source ≡ begun tree.now.spaces given) }
+        ensures proper { IfOk result (λ s. (names : List NameParts) → AreNamed names tree.now.items → IsProper names s.source) }
     {
         let nodes = planted(alloc, tree.items())?;
-        let spaces = tree.spaces().copy()?;
+        let spaces = tree.spaces().copy(alloc)?;
         Ok(SourceTree { nodes, spaces })
     }
 }
 
 /// The arena of a whole tree.
-fn planted(alloc: Global, items: &[TreeItem]) -> Result<Vec<Node>, AllocError>
+fn planted(alloc: Global, items: &[TreeItem]) -> Result<Vec<Option<Node>>, AllocError>
     requires { length items.now < 2 ^ 32 - 1 }
-    ensures { IfOk result (λ nodes. (given : Given) → map without_line items.now ≡ items_of given → nodes.items ≡ arena_of given) }
+    ensures { IfOk result (λ nodes. (given : Given) → items.now ≡ items_of given → nodes.items ≡ arena_of given) }
 {
     let mut nodes = Vec::new(alloc);
-    nodes.push(Node {
-        up: None,
-        body: NodeBody::Root,
-        kids: Items::new(alloc),
-    })?;
+    nodes.push(None)?;
     let below = plant_all(alloc, items, 0, NodeName(0), &mut nodes)?;
     let Grown { kids, to: _ } = below;
-    nodes[0].kids = kids;
+    nodes[0] = Some(Node {
+        up: None,
+        body: NodeBody::Root,
+        kids,
+    });
     Ok(nodes)
 }
 
@@ -53,7 +52,7 @@ struct Grown {
     to: usize,
 }
 
-/// The attributes in memory of their own.
+/// The attributes in a list of their own, which shares their values.
 fn copy_pairs(alloc: Global, pairs: &[AttrPair]) -> Result<Items<AttrPair>, AllocError>
     ensures { IfOk result (λ copy. copy ≡ pairs.now) }
 {
@@ -74,7 +73,7 @@ fn plant_all(
     items: &[TreeItem],
     at: usize,
     up: NodeName,
-    nodes: &mut Vec<Node>,
+    nodes: &mut Vec<Option<Node>>,
 ) -> Result<Grown, AllocError>
     requires within { at ≤ length items.now }
     requires room { length nodes.old.items ≤ at + 1 }
@@ -111,7 +110,7 @@ fn plant(
     items: &[TreeItem],
     at: usize,
     up: NodeName,
-    nodes: &mut Vec<Node>,
+    nodes: &mut Vec<Option<Node>>,
     kids: &mut Items<NodeName>,
 ) -> Result<usize, AllocError>
     requires within { at < length items.now }
@@ -147,7 +146,7 @@ fn plant_leaf(
     at: usize,
     body: NodeBody,
     up: NodeName,
-    nodes: &mut Vec<Node>,
+    nodes: &mut Vec<Option<Node>>,
     kids: &mut Items<NodeName>,
 ) -> Result<usize, AllocError>
     requires leaf { LeafAt items.now at body }
@@ -158,11 +157,11 @@ fn plant_leaf(
     ensures further { IfOk result (λ to. (to ≡ at + 1) × (length nodes.new.items ≡ length nodes.old.items + 1)) }
 {
     let number = NodeName(nodes.len() as u32);
-    nodes.push(Node {
+    nodes.push(Some(Node {
         up: Some(up),
         body,
         kids: Items::new(alloc),
-    })?;
+    }))?;
     kids.push(number)?;
     Ok(at + 1)
 }
@@ -175,7 +174,7 @@ fn plant_element(
     at: usize,
     body: NodeBody,
     up: NodeName,
-    nodes: &mut Vec<Node>,
+    nodes: &mut Vec<Option<Node>>,
     kids: &mut Items<NodeName>,
 ) -> Result<usize, AllocError>
     requires begins { BeginsAt items.now at body }
@@ -187,14 +186,14 @@ fn plant_element(
 {
     let place = nodes.len();
     let number = NodeName(place as u32);
-    nodes.push(Node {
-        up: Some(up),
-        body,
-        kids: Items::new(alloc),
-    })?;
+    nodes.push(None)?;
     let below = plant_all(alloc, items, at + 1, number, nodes)?;
     let Grown { kids: inner, to } = below;
-    nodes[place].kids = inner;
+    nodes[place] = Some(Node {
+        up: Some(up),
+        body,
+        kids: inner,
+    });
     kids.push(number)?;
     Ok(behind(to, items.len()))
 }

@@ -1,22 +1,78 @@
-ghost use Rattle.std.specs.Prelude.{◌≡◌, ℕ, ◌≤◌, List};
-ghost use Rattle.serna_kinds.specs.Names.{Space};
-ghost use Rattle.source_model.specs.Source.{Source};
-ghost use Rattle.source_model.specs.Proper.{uses};
+//! Laws of sources in memory. Each function has an empty body, and its contract is the law.
+ghost use Rattle.std.specs.Prelude.{◌≡◌, ℕ, ◌<◌, ◌≤◌, List, Some, length};
+ghost use Rattle.serna_kinds.specs.declared.cells.NodeName.{NodeName};
+ghost use Rattle.serna_kinds.specs.Texts.{IsPlaceIn};
+ghost use Rattle.serna_kinds.specs.Names.{NameParts, Space, Grows, AreDistinct};
+ghost use Rattle.source_model.specs.Source.{Source, numbers};
+ghost use Rattle.source_model.specs.Cells.{Spot, spot_of};
+ghost use Rattle.source_model.specs.Changes.{text_at};
+ghost use Rattle.source_model.specs.Proper.{uses, IsProper};
 ghost use Rattle.source_tree.specs.declared.prim.Primitive.{Primitive};
-ghost use Rattle.source_tree.specs.Prims.{applied, IsUndoing, MayApply};
-ghost use Rattle.tree_lines.specs.Given.{Given};
+ghost use Rattle.source_tree.specs.declared.prim.Primitive.TheVariants.{RemoveText, RemoveChild};
+ghost use Rattle.source_tree.specs.Prims.{applied, inverse, MayApply, KeepsProper};
+ghost use Rattle.source_tree.specs.Printing.{IsPrintable, PutsWritable, PrintsBack};
+ghost use Rattle.tree_lines.specs.Written.{Written, written_lines};
+ghost use Rattle.tree_lines.specs.Documents.{IsDocument};
+ghost use Rattle.tree_lines.specs.Given.{Given, without_lines, IsWhole, spaces_of, given_of};
+ghost use Rattle.tree_lines.specs.Tokens.{names_with};
 ghost use Rattle.source_tree.specs.Begun.{begun};
 ghost use Rattle.source_tree.specs.Unnumbered.{document_of};
 
-/// What takes a prim back restores the tree, where no number stands twice in it, and keeps the declared prefixes.
+/// What takes a prim back restores the tree, where no number stands twice in it, and keeps the declared prefixes. The count of
+/// numbers ever made does not fall.
 pub fn undoing_restores()
-    ensures tree { (source : Source) (prim undoing : Primitive) → ((n : ℕ) → uses n source.tree ≤ 1) → MayApply prim source → IsUndoing prim undoing →
-        (applied undoing (applied prim source)).tree ≡ source.tree }
-    ensures spaces { (source : Source) (prim undoing : Primitive) → MayApply prim source → IsUndoing prim undoing →
-        (applied undoing (applied prim source)).spaces ≡ source.spaces }
+    ensures tree { (source : Source) (prim : Primitive) → ((n : ℕ) → uses n source.tree ≤ 1) → MayApply prim source →
+        (applied (inverse prim source) (applied prim source)).tree ≡ source.tree }
+    ensures spaces { (source : Source) (prim : Primitive) → (applied (inverse prim source) (applied prim source)).spaces ≡ source.spaces }
+    ensures made { (source : Source) (prim : Primitive) → source.made ≤ (applied (inverse prim source) (applied prim source)).made }
 {}
 
-/// The source that a tree begins has this tree as its document: `lines` of it writes the tree.
+/// What is taken out of a source comes in again as it stood there, under its numbers: characters from a place between two of
+/// them on, and a child with all below it.
+pub fn what_was_taken_out_comes_back()
+    ensures text { (source : Source) (number : NodeName) (from to : ℕ) (text : List ℕ) → ((n : ℕ) → uses n source.tree ≤ 1) →
+        text_at source number.0 ≡ Some text → IsPlaceIn text from → from ≤ to →
+        (applied (inverse (RemoveText number from to) source) (applied (RemoveText number from to) source)).tree ≡ source.tree }
+    ensures child { (names : List NameParts) (source : Source) (parent : NodeName) (place : ℕ) (spot : Spot) → IsProper names source →
+        spot_of source parent.0 ≡ Some spot → place < length (numbers spot.kids) →
+        (applied (inverse (RemoveChild parent place) source) (applied (RemoveChild parent place) source)).tree ≡ source.tree }
+{}
+
+/// The source that a tree begins has this tree as its document, but for the numbers of the lines: `lines` of it writes the tree.
 pub fn a_tree_begins_its_own_document()
-    ensures { (spaces : List Space) (given : Given) → document_of (begun spaces given) ≡ given }
+    ensures { (spaces : List Space) (given : Given) → document_of (begun spaces given) ≡ without_lines given }
+{}
+
+/// The numbers of a tree's lines show in nothing of the source that it begins.
+pub fn lines_do_not_show()
+    ensures { (spaces : List Space) (given : Given) → begun spaces (without_lines given) ≡ begun spaces given }
+{}
+
+/// The document of a proper source is within the limits of what can be read: one element with comments beside it, short texts
+/// that are not neighbours, not too many nodes, and elements not too deep in one another.
+pub fn documents_of_proper_sources_are_whole()
+    ensures { (names : List NameParts) (source : Source) → IsProper names source → IsWhole (document_of source) }
+{}
+
+/// What `lines` prints of a source reads back: the lines are those of a document, and the source that it begins has the same
+/// document and the same declarations.
+pub fn printing_reads_back()
+    ensures { (names : List NameParts) (source : Source) → AreDistinct names → IsPrintable names source → PrintsBack names source }
+{}
+
+/// A source that can be printed so that it reads back stays so when a prim puts text into it, or a new text or comment.
+pub fn typing_keeps_a_source_writable()
+    ensures { (names : List NameParts) (source : Source) (prim : Primitive) → IsProper names source → MayApply prim source → KeepsProper names prim source →
+        PutsWritable names source.spaces prim → IsPrintable names source → IsPrintable names (applied prim source) }
+{}
+
+/// The source that a document begins can be printed so that it reads back.
+pub fn a_begun_source_is_writable()
+    ensures { (names table : List NameParts) (numbers : List ℕ) (document : Written) → IsDocument document →
+        Grows (names_with names (written_lines document)) table → IsPrintable table (begun (spaces_of document) (given_of table numbers document)) }
+{}
+
+/// A source that can be printed so that it reads back over a table of names can be so over every table that grows from it.
+pub fn printable_while_names_grow()
+    ensures { (names table : List NameParts) (source : Source) → Grows names table → IsPrintable names source → IsPrintable table source }
 {}

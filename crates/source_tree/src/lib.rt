@@ -9,7 +9,11 @@ mod node;
 mod prim;
 mod tree;
 
-pub use laws::{a_tree_begins_its_own_document, undoing_restores};
+pub use laws::{
+    a_begun_source_is_writable, a_tree_begins_its_own_document,
+    documents_of_proper_sources_are_whole, printable_while_names_grow, printing_reads_back,
+    typing_keeps_a_source_writable, undoing_restores, what_was_taken_out_comes_back,
+};
 pub use prim::{Caret, CaretPlace, Primitive, SubItem, Undoing};
 pub use tree::SourceTree;
 

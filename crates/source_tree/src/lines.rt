@@ -3,7 +3,7 @@ ghost use Rattle.tree_lines.specs.Canonical.{canonical_text};
 ghost use Rattle.source_tree.specs.Lines.{Writes, WritesNode, WritesElement, WritesContent, WritesTop, WritesFirst, WritesOutermost};
 
 use crate::SourceTree;
-use crate::node::{Node, NodeBody};
+use crate::node::{Node, NodeBody, node_at};
 use serna_kinds::{AttrPair, Chars, NameId, NameTable, NoMemory, NodeName, Spaces};
 use std::alloc::Global;
 use tree_lines::TreeWriter;
@@ -18,19 +18,19 @@ impl SourceTree {
     /// the beginning of its outermost element. `names` is the table that its names are numbers of. Takes memory for the text
     /// alone; `Err` comes where there is none.
     pub fn lines(&self, alloc: Global, names: &NameTable) -> Result<Chars, NoMemory>
-        ensures { IfOk result (λ text. encode_utf8_all text ≡ canonical_text names.now self.now.spaces (document_of self.now)) }
+        ensures { IfOk result (λ text. encode_utf8_all text ≡ canonical_text names.now self.now.source.spaces (document_of self.now.source)) }
     {
         let mut writer = TreeWriter::new(alloc);
-        let top = self.nodes[0].kids.as_slice();
+        let top = node_at(&self.nodes, NodeName(0)).kids.as_slice();
         write_top(&self.nodes, top, names, &self.spaces, &mut writer)?;
-        Ok(writer.into_chars())
+        writer.into_chars()
     }
 }
 
 /// Writes the nodes of these numbers, those below the document node, with all below them. The first element among them has
 /// what the document declares.
 fn write_top(
-    nodes: &[Node],
+    nodes: &[Option<Node>],
     kids: &[NodeName],
     names: &NameTable,
     spaces: &Spaces,
@@ -50,7 +50,7 @@ fn write_top(
 /// Writes the node of a number with all below it, with what the document declares if it is an element. Gives whether it is.
 /// A number of no node writes nothing, and so does a document node.
 fn write_first(
-    nodes: &[Node],
+    nodes: &[Option<Node>],
     number: NodeName,
     names: &NameTable,
     spaces: &Spaces,
@@ -58,7 +58,7 @@ fn write_first(
 ) -> Result<bool, NoMemory>
     ensures { IfOk result (λ declared. WritesFirst nodes.now number names.now spaces.now writer.old declared writer.new) }
 {
-    let Some(node) = nodes.get(number.0 as usize) else {
+    let Some(Some(node)) = nodes.get(number.0 as usize) else {
         return Ok(false);
     };
     match &node.body {
@@ -82,7 +82,7 @@ fn write_first(
 
 /// Writes the outermost element: its beginning, with what the document declares and its attributes, and what stands behind it.
 fn write_outermost(
-    nodes: &[Node],
+    nodes: &[Option<Node>],
     name: NameId,
     attributes: &[AttrPair],
     kids: &[NodeName],
@@ -99,7 +99,7 @@ fn write_outermost(
 /// Writes the nodes of these numbers with all below them, where elements stand at most `left` deep in one another.
 #[cycle(writing)]
 fn write_kids(
-    nodes: &[Node],
+    nodes: &[Option<Node>],
     kids: &[NodeName],
     left: usize,
     names: &NameTable,
@@ -116,7 +116,7 @@ fn write_kids(
 /// Writes the node of a number with all below it. A number of no node writes nothing, and so does a document node.
 #[cycle(writing)]
 fn write_node(
-    nodes: &[Node],
+    nodes: &[Option<Node>],
     number: NodeName,
     left: usize,
     names: &NameTable,
@@ -124,7 +124,7 @@ fn write_node(
 ) -> Result<(), NoMemory>
     ensures { OnOk result (WritesNode nodes.now number left names.now writer.old writer.new) }
 {
-    let Some(node) = nodes.get(number.0 as usize) else {
+    let Some(Some(node)) = nodes.get(number.0 as usize) else {
         return Ok(());
     };
     match &node.body {
@@ -149,7 +149,7 @@ fn write_node(
 /// Writes an element: its beginning, with its attributes, and what stands behind it.
 #[cycle(writing)]
 fn write_element(
-    nodes: &[Node],
+    nodes: &[Option<Node>],
     name: NameId,
     attributes: &[AttrPair],
     kids: &[NodeName],
@@ -170,7 +170,7 @@ fn write_element(
 /// Writes what stands behind an element's beginning: the nodes of its children's numbers, and its end.
 #[cycle(writing)]
 fn write_content(
-    nodes: &[Node],
+    nodes: &[Option<Node>],
     name: NameId,
     kids: &[NodeName],
     left: usize,

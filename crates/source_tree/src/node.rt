@@ -1,7 +1,7 @@
-ghost use Rattle.std.specs.Prelude.{◌≡◌};
+ghost use Rattle.std.specs.Prelude.{◌≡◌, Some, slice_get};
 ghost use Rattle.std.specs.Option.{option_map};
 ghost use Rattle.serna_kinds.specs.Content.{content_of};
-ghost use Rattle.source_tree.specs.Arena.{node_facet, body_of, kids_in};
+ghost use Rattle.source_tree.specs.Arena.{node_facet, body_of, kids_in, HasNode};
 
 use serna_kinds::{AttrPair, CellValue, Chars, Facet, Items, Kind, NameId, NodeName};
 
@@ -20,6 +20,17 @@ pub(crate) struct Node {
     pub(crate) up: Option<NodeName>,
     pub(crate) body: NodeBody,
     pub(crate) kids: Items<NodeName>,
+}
+
+/// The node of a number that has one.
+pub(crate) fn node_at(nodes: &[Option<Node>], number: NodeName) -> &Node
+    requires { HasNode nodes.now number.0 }
+    ensures { slice_get nodes.now number.0 ≡ Some (Some result.now) }
+{
+    match &nodes[number.0 as usize] {
+        Some(node) => node,
+        None => unreachable!(),
+    }
 }
 
 impl Node {

@@ -41,9 +41,9 @@ fn lines_of(alloc: Global, rows: &[&[u8]]) -> Result<Vec<Line>, AllocError>
 
 // The source of the document, whose names the table gets.
 fn read_source(alloc: Global, names: &mut NameTable) -> Result<SourceTree, Fail>
-    ensures text { IfOk result (λ source. text_at source 3 ≡ Some (codes "t")) }
-    ensures inner { IfOk result (λ source. HasPlace source 4 0) }
-    ensures made { IfOk result (λ source. source.made ≡ 5) }
+    ensures text { IfOk result (λ tree. text_at tree.source 3 ≡ Some (codes "t")) }
+    ensures inner { IfOk result (λ tree. HasPlace tree.source 4 0) }
+    ensures made { IfOk result (λ tree. tree.source.made ≡ 5) }
 {
     let lines = lines_of(alloc, &ROWS)?;
     let tree = read_tree(alloc, lines.as_slice(), names)?;
@@ -52,9 +52,9 @@ fn read_source(alloc: Global, names: &mut NameTable) -> Result<SourceTree, Fail>
 }
 
 fn new_source(alloc: Global) -> Result<SourceTree, Fail>
-    ensures text { IfOk result (λ source. text_at source 3 ≡ Some (codes "t")) }
-    ensures inner { IfOk result (λ source. HasPlace source 4 0) }
-    ensures made { IfOk result (λ source. source.made ≡ 5) }
+    ensures text { IfOk result (λ tree. text_at tree.source 3 ≡ Some (codes "t")) }
+    ensures inner { IfOk result (λ tree. HasPlace tree.source 4 0) }
+    ensures made { IfOk result (λ tree. tree.source.made ≡ 5) }
 {
     let mut names = NameTable::new(alloc);
     read_source(alloc, &mut names)

@@ -1,4 +1,4 @@
-use Rattle.std.proofs.Common.{◌≡◌, length, drop, arith, refl, subst, slice_get, Some}
+use Rattle.std.proofs.Common.{◌≡◌, length, drop, arith, refl, subst, slice_get, Some, None}
 use Rattle.std.proofs.lemmas.Bool.{false≢true}
 use Rattle.std.proofs.lemmas.Option.{slice_get_read}
 use Rattle.source_tree.specs.Growing.{EndsHere}
@@ -35,5 +35,5 @@ plant_all-returns-clause-all t c = λ old more ends left.
 pub plant_element-returns-clause-plants : goal.plant_element-returns-clause-plants
 plant_element-returns-clause-plants t c =
     element_plants c.args.items.now c.args.up c.args.at c.args.nodes.now.items c.args.kids.now c.args.body
-    (record { up = Some c.args.up; body = c.args.body; kids = c.new.result }) c.index_mut.result.now c.in_ok-below.below.to c.plant_all.new.nodes.items c.in_ok-below.below.kids c.behind.result
-    c.len-place.result c.push.new.self.items c.push-2.new.self c.requires.begins (omega arith) c.in_ok-push.ensures.items refl refl c.index_mut.ensures.value c.in_ok-below.ensures.all c.behind.ensures.next c.in_ok-push-2.ensures.ok
+    None c.in_ok-below.below.to c.plant_all.new.nodes.items c.in_ok-below.below.kids c.behind.result
+    c.len-place.result c.push.new.self.items c.push-2.new.self c.requires.begins (omega arith) c.in_ok-push.ensures.items c.in_ok-below.ensures.all c.behind.ensures.next c.in_ok-push-2.ensures.ok

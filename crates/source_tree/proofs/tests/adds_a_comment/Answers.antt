@@ -5,5 +5,5 @@ use Rattle.source_tree.proofs.tests.adds_a_comment.Goals as goal
 
 pub apply-requires : goal.apply-requires
 apply-requires g c =
-    may_add c.in_ok-source.source c.in_ok-piece.field-0 c.push.new.self c.in_ok-source.ensures.inner c.in_ok-source.ensures.made
+    may_add c.in_ok-source.source.source c.in_ok-piece.field-0 c.push.new.self c.in_ok-source.ensures.inner c.in_ok-source.ensures.made
     (c.in_ok-push.ensures.ok ∙ ap (λ is. is ++ item.Comment (record { 0 = 6 }) c.in_ok-piece.field-0 ∷ []) c.new-items.ensures)
