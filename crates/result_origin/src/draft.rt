@@ -5,7 +5,7 @@ ghost use Rattle.result_origin.specs.Steps.{part_of, depth_after, CanStep};
 
 use crate::Fragment;
 use crate::steps::Step;
-use serna_kinds::{Chars, Items, NameId, NoMemory};
+use serna_kinds::{Items, NameId, NoMemory};
 use std::alloc::Global;
 use std::marker::Model;
 use std::mem;
@@ -54,9 +54,7 @@ impl Draft {
         ensures { OnOk result (self.new ≡ record { depth = depth_after step.entry self.old.depth; parts = self.old.parts ++ part_of step.entry ∷ [] }) }
     {
         match step {
-            Step::Run(text, origin) => self
-                .now
-                .push_run(Chars::from_text(alloc, text.as_text())?, origin),
+            Step::Run(text, origin) => self.now.push_run(text.copy()?, origin),
             Step::Begin(name, rule) => self.now.push_begin(name, rule),
             Step::Enter(name) => self.enter(alloc, name),
             Step::Leave => self.leave(),

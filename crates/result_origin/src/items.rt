@@ -138,7 +138,7 @@ impl Item {
         ensures { IfOk result (λ same. same ≡ self.now) }
     {
         Ok(match self {
-            Item::Run(text, origin) => Item::Run(Chars::from_text(alloc, text.as_text())?, *origin),
+            Item::Run(text, origin) => Item::Run(text.copy()?, *origin),
             Item::Begin(name, rule) => Item::Begin(*name, *rule),
             Item::Attr(name, value) => Item::Attr(*name, value.copy(alloc)?),
             Item::Finish => Item::Finish,

@@ -26,12 +26,12 @@ pub struct Run {
 }
 
 impl Run {
-    /// The same run, in memory of its own.
-    pub fn copy(&self, alloc: Global) -> Result<Run, NoMemory>
+    /// The same run, which shares its text. Takes no memory.
+    pub fn copy(&self) -> Result<Run, NoMemory>
         ensures { IfOk result (λ same. same ≡ self.now) }
     {
         Ok(Run {
-            text: Chars::from_text(alloc, self.text.as_text())?,
+            text: self.text.copy()?,
             origin: self.origin,
             face: self.face,
             line_height: self.line_height,
@@ -98,12 +98,12 @@ impl Part {
         &self.run.text.as_text()[self.start..self.finish]
     }
 
-    /// The same part, in memory of its own.
-    pub fn copy(&self, alloc: Global) -> Result<Part, NoMemory>
+    /// The same part, which shares its text. Takes no memory.
+    pub fn copy(&self) -> Result<Part, NoMemory>
         ensures { IfOk result (λ same. same ≡ self.now) }
     {
         Ok(Part {
-            run: self.run.copy(alloc)?,
+            run: self.run.copy()?,
             start: self.start,
             finish: self.finish,
         })
@@ -126,7 +126,7 @@ impl Line {
     {
         let mut parts = Items::new(alloc);
         for part in self.parts.as_slice() {
-            parts.push(part.copy(alloc)?)?;
+            parts.push(part.copy()?)?;
         }
         Ok(Line {
             x: self.x,

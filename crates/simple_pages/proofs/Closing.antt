@@ -1,5 +1,5 @@
 -- Groups that are closed one by one are the groups in a row.
-use Rattle.std.proofs.Common.{◌≡◌, ℕ, zero, suc, ◌+◌, Bool, true, false, List, [], ◌∷◌, ◌++◌, length, map, refl, sym, ap, ◌∙◌, cond, arith, append_assoc, append-nil, length-append, eqb, rules, tests}
+use Rattle.std.proofs.Common.{◌≡◌, ℕ, zero, suc, ◌+◌, Bool, true, false, List, [], ◌∷◌, ◌++◌, length, map, refl, sym, ap, ◌∙◌, cond, append_assoc, append-nil, length-append, eqb, rules, tests}
 use Rattle.std.specs.List.{filter, list_any, onto_first}
 use Rattle.result_origin.specs.Parts.{Mark, Run}
 use Rattle.result_origin.specs.declared.origin.Origin.{Origin}
@@ -8,7 +8,7 @@ use Rattle.simple_pages.specs.declared.runs.Shown.{Shown}
 use Rattle.simple_pages.specs.Groups.{ShownRun, shown_run, groups_in, up_to_end, is_seen, is_line}
 use Rattle.simple_pages.specs.Pages.{line_at, lines_from}
 use Rattle.simple_pages.specs.Shown.{shown_of}
-use Rattle.simple_pages.specs.Laying.{LayingValue, with_run, with_group, closed, behind_group, finished, finished_with}
+use Rattle.simple_pages.specs.Laying.{LayingValue, with_run, with_group, behind_group, finished, finished_with}
 
 pub any_shown : (runs : List Shown) → list_any (λ run. is_seen (shown_of run)) runs ≡ list_any is_seen (map shown_of runs)
 any_shown [] = refl

@@ -1,8 +1,8 @@
 -- What stands behind the start of a result.
-use Rattle.std.proofs.Common.{◌≡◌, ℕ, ◌-◌, ◌≤◌, Bool, true, false, List, [], ◌∷◌, length, take, drop, get_or, refl, sym, ap, ◌∙◌, arith}
+use Rattle.std.proofs.Common.{◌≡◌, ℕ, ◌-◌, ◌≤◌, true, List, [], ◌∷◌, length, take, drop, get_or, refl, sym, ap, ◌∙◌, arith}
 use Rattle.std.proofs.lemmas.List.{take_rest}
 use Rattle.serna_kinds.specs.Names.{NameParts}
-use Rattle.result_origin.specs.Parts.{Mark, ResultPart, Says, Hole, said}
+use Rattle.result_origin.specs.Parts.{Mark, ResultPart, Says, said}
 use Rattle.result_origin.specs.Items.{parts_in}
 use Rattle.result_origin.specs.declared.items.Item.{Item}
 use Rattle.result_origin.specs.declared.items.Item.TheVariants as item

@@ -1,9 +1,10 @@
 -- What a result shows before there is layout (this project's own): each longest group of neighbouring runs is a line, a start, an end or an
 -- attribute standing between one group and the next.
-use Rattle.std.specs.Prelude.{ℕ, zero, suc, ◌==◌, ◌&&◌, ◌||◌, not, Bool, true, false, List, [], ◌∷◌, ◌++◌, filter, slice_get, bytes_eq, codes}
-use Rattle.std.specs.List.{list_all, list_any, flat_map, onto_first}
+use Rattle.std.specs.Prelude.{ℕ, zero, suc, ◌&&◌, ◌||◌, not, Bool, true, false, List, [], ◌∷◌, filter, slice_get, bytes_eq, codes}
+use Rattle.std.specs.List.{list_any, flat_map, onto_first}
 use Rattle.std.specs.Option.{option_map_or}
 use Rattle.serna_kinds.specs.declared.cells.NameId.{NameId}
+use Rattle.serna_kinds.specs.Blanks.{is_blank}
 use Rattle.serna_kinds.specs.Names.{NameParts}
 use Rattle.result_origin.specs.declared.origin.Origin.{Origin}
 use Rattle.result_origin.specs.declared.origin.Origin.TheVariants as origin
@@ -32,10 +33,6 @@ groups_in n (Finish ∷ marks) = [] ∷ groups_in n marks
 abbrev pub runs_in : List Mark → List ShownRun
 runs_in marks = flat_map (λ (group : List ShownRun). group) (groups_in 0 marks)
 
--- white space (XML 1.0, section 2.3)
-abbrev pub is_space : ℕ → Bool
-is_space c = c == 32 || c == 9 || c == 13 || c == 10
-
 -- text can be typed there
 abbrev pub is_into : Origin → Bool
 is_into (origin.Text number at) = false
@@ -46,7 +43,7 @@ is_into (origin.Computed rule node) = false
 
 -- a run that makes its group a line
 abbrev pub is_seen : ShownRun → Bool
-is_seen run = is_into run.origin || not (list_all is_space run.text)
+is_seen run = is_into run.origin || not (is_blank run.text)
 
 -- a group of white space alone is no line, unless text can be typed into it
 abbrev pub is_line : List ShownRun → Bool

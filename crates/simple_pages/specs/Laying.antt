@@ -1,5 +1,5 @@
 -- Groups that become lines one by one (this project's own).
-use Rattle.std.specs.Prelude.{ℕ, ◌+◌, ◌==◌, List, [], ◌∷◌, ◌++◌, length, filter, if◌then◌else◌}
+use Rattle.std.specs.Prelude.{ℕ, ◌==◌, List, [], ◌∷◌, ◌++◌, length, filter, if◌then◌else◌}
 use Rattle.std.specs.List.{flat_map}
 use Rattle.result_origin.specs.Parts.{Mark}
 use Rattle.result_origin.specs.declared.pages.Line.{Line}

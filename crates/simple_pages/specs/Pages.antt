@@ -1,5 +1,5 @@
 -- The one page of a result before there is layout (this project's own): its lines stand below one another, each as high as a line of 12pt.
-use Rattle.std.specs.Prelude.{ℕ, ◌+◌, ◌*◌, ℤ, pos, Bool, true, false, List, [], ◌∷◌, map, length, None, encode_utf8_all, if◌then◌else◌}
+use Rattle.std.specs.Prelude.{ℕ, ◌+◌, ◌*◌, pos, false, List, [], ◌∷◌, map, length, None, encode_utf8_all, if◌then◌else◌}
 use Rattle.serna_kinds.specs.Names.{NameParts}
 use Rattle.result_origin.specs.declared.pages.Face.{Face}
 use Rattle.result_origin.specs.declared.pages.Run.{Run}

@@ -1,13 +1,11 @@
 //! Runs that are shown, and the lines that they make.
 ghost use Rattle.std.specs.Prelude.{◌≡◌, ◌+◌, ◌*◌, ℕ, pos, map, IfOk};
-ghost use Rattle.std.specs.List.{list_all};
-ghost use Rattle.std.specs.Str.{chars};
-ghost use Rattle.simple_pages.specs.Groups.{is_space, is_into, is_seen, is_line};
+ghost use Rattle.simple_pages.specs.Groups.{is_into, is_seen, is_line};
 ghost use Rattle.simple_pages.specs.Pages.{whole_part, line_at};
 ghost use Rattle.simple_pages.specs.Shown.{shown_of};
 
 use result_origin::{Face, Line, Origin, Part, Run};
-use serna_kinds::{Chars, Items, NoMemory};
+use serna_kinds::{Chars, Items, NoMemory, is_blank};
 use std::alloc::{AllocError, Global};
 
 /// 12pt, plain and black.
@@ -29,23 +27,11 @@ pub(crate) struct Shown<'a> {
     pub(crate) origin: Origin,
 }
 
-fn is_space(character: char) -> bool
-    ensures { result ≡ is_space character }
-{
-    matches!(character, ' ' | '\t' | '\r' | '\n')
-}
-
 /// Whether text can be typed there.
 fn is_into(origin: Origin) -> bool
     ensures { result ≡ is_into origin }
 {
     matches!(origin, Origin::Into(_))
-}
-
-fn is_blank(text: &str) -> bool
-    ensures { result ≡ list_all is_space (chars text.now) }
-{
-    text.chars().all(is_space)
 }
 
 /// Whether a run makes its group a line.
@@ -62,11 +48,11 @@ pub(crate) fn is_line(group: &[Shown<'_>]) -> bool
     group.iter().any(is_seen)
 }
 
-/// A run as one part of a line, with a text of its own.
-fn whole_part(alloc: Global, run: &Shown<'_>) -> Result<Part, NoMemory>
+/// A run as one part of a line, which shares its text.
+fn whole_part(run: &Shown<'_>) -> Result<Part, NoMemory>
     ensures { IfOk result (λ part. part ≡ whole_part (shown_of run.now)) }
 {
-    let text = Chars::from_text(alloc, run.text.as_text())?;
+    let text = run.text.copy()?;
     let finish = text.as_text().len();
     let run = Run {
         text,
@@ -83,7 +69,7 @@ pub(crate) fn line_of(alloc: Global, down: i64, runs: &[Shown<'_>]) -> Result<Li
 {
     let mut parts = Items::new(alloc);
     for run in runs {
-        parts.push(whole_part(alloc, run)?)?;
+        parts.push(whole_part(run)?)?;
     }
     Ok(Line {
         x: 0,

@@ -28,7 +28,7 @@ const ROWS: [(&str, bool, &str); 8] = [
 fn letter(alloc: Global, character: char) -> Result<Chars, NoMemory> {
     let mut text = String::new(alloc);
     text.push(character)?;
-    Ok(Chars::from_string(text))
+    Chars::from_string(text)
 }
 
 fn attribute(alloc: Global) -> Result<Fragment, NoMemory> {
@@ -43,7 +43,7 @@ fn add(alloc: Global, whole: &mut Fragment, mark: char) -> Result<(), NoMemory> 
         '[' => whole.push_begin(OTHER, 0),
         '>' | ']' => whole.push_finish(),
         '@' => whole.push_attr(OTHER, attribute(alloc)?),
-        '?' => whole.push_run(Chars::new(alloc), Origin::Into(NodeName(1))),
+        '?' => whole.push_run(Chars::new(alloc)?, Origin::Into(NodeName(1))),
         _ => whole.push_run(letter(alloc, mark)?, Origin::Fixed(0)),
     }
 }

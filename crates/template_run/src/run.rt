@@ -207,7 +207,8 @@ impl<'a, V: SourceView> Transformation<'a, V> {
     {
         let kids = children_of(self.view, current.node, tape)?;
         if is_childless_element(current.kind, kids) {
-            return out.push_run(Chars::new(self.alloc), Origin::Into(current.node));
+            let nothing = Chars::new(self.alloc)?;
+            return out.push_run(nothing, Origin::Into(current.node));
         }
         self.add_nodes(current.left, kids, tape, out)
     }

@@ -129,7 +129,7 @@ fn rules(alloc: Global) -> Result<Items<Rule>, NoMemory> {
     let mut rules = Items::new(alloc);
     rules.push(rule(Pattern::Root, 0, element(alloc, attribute(alloc)?)?))?;
     rules.push(rule(Pattern::Named(NameId(0)), 1, text(alloc, "x")?))?;
-    let empty = Instruction::Text(Chars::new(alloc));
+    let empty = Instruction::Text(Chars::new(alloc)?);
     rules.push(rule(Pattern::Named(NameId(0)), 2, element(alloc, empty)?))?;
     Ok(rules)
 }

@@ -116,7 +116,7 @@ fn written(rt: &HostRuntime, text: &str) -> Result<Chars, Fail> {
     spaces.declare(rt.alloc(), "p", "u")?;
     match read_expr(rt.alloc(), text, &spaces, &mut names) {
         Ok(expr) => Ok(write_expr(rt.alloc(), &expr, &spaces, &names)?),
-        Err(_) => Ok(Chars::new(rt.alloc())),
+        Err(_) => Ok(Chars::new(rt.alloc())?),
     }
 }
 

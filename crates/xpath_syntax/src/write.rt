@@ -816,5 +816,5 @@ pub fn write_expr(
 {
     let mut text = String::new(alloc);
     push_expr(&mut text, expr, false, spaces, names)?;
-    Ok(Chars::from_string(text))
+    Chars::from_string(text)
 }

@@ -3,26 +3,26 @@ use Rattle.std.proofs.Common.{◌≡◌, ℕ, ◌≤◌, false, not, List, [], �
 use Rattle.std.specs.List.{AllByRecursion, slice_split, onto_first, join_with_byte}
 use Rattle.std.proofs.lemmas.Bool.{cases_Bool, cond-true, cond-false}
 use Rattle.xpath_values.specs.Values.{is_empty}
-use Rattle.xpath_values.specs.Numerals.{is_white_space_at}
+use Rattle.serna_kinds.specs.Blanks.{is_space}
 use Rattle.xpath_values.specs.Texts.{words, normalized, IsWord}
 
 -- ---- the parts between white space have none
 abbrev HasInk : List ℕ → Type 0
-HasInk part = AllByRecursion (λ c. is_white_space_at c ≡ false) part
+HasInk part = AllByRecursion (λ c. is_space c ≡ false) part
 
 abbrev split : List ℕ → List (List ℕ)
-split text = slice_split is_white_space_at text
+split text = slice_split is_space text
 
-ink_first : (c : ℕ) (parts : List (List ℕ)) → is_white_space_at c ≡ false → AllByRecursion HasInk parts → AllByRecursion HasInk (onto_first c parts)
+ink_first : (c : ℕ) (parts : List (List ℕ)) → is_space c ≡ false → AllByRecursion HasInk parts → AllByRecursion HasInk (onto_first c parts)
 ink_first c [] e all = ((e, tt), tt)
 ink_first c (part ∷ parts) e all = ((e, all.0), all.1)
 
 split_has_ink : (text : List ℕ) → AllByRecursion HasInk (split text)
 split_has_ink [] = (tt, tt)
 split_has_ink (c ∷ cs) =
-    elim (cases_Bool (is_white_space_at c)) [
-      | inl e ↦ subst (AllByRecursion HasInk) (sym (cond-true (is_white_space_at c) ([] ∷ split cs) (onto_first c (split cs)) e)) (tt, split_has_ink cs)
-      | inr e ↦ subst (AllByRecursion HasInk) (sym (cond-false (is_white_space_at c) ([] ∷ split cs) (onto_first c (split cs)) e)) (ink_first c (split cs) e (split_has_ink cs))
+    elim (cases_Bool (is_space c)) [
+      | inl e ↦ subst (AllByRecursion HasInk) (sym (cond-true (is_space c) ([] ∷ split cs) (onto_first c (split cs)) e)) (tt, split_has_ink cs)
+      | inr e ↦ subst (AllByRecursion HasInk) (sym (cond-false (is_space c) ([] ∷ split cs) (onto_first c (split cs)) e)) (ink_first c (split cs) e (split_has_ink cs))
     ]
 
 abbrev full : List (List ℕ) → List (List ℕ)
@@ -40,7 +40,7 @@ words_law text = full_words (split text) (split_has_ink text)
 split_word : (w rest part : List ℕ) (parts : List (List ℕ)) → HasInk w → split rest ≡ part ∷ parts → split (w ++ rest) ≡ (w ++ part) ∷ parts
 split_word [] rest part parts ink e = e
 split_word (c ∷ w) rest part parts ink e =
-    cond-false (is_white_space_at c) ([] ∷ split (w ++ rest)) (onto_first c (split (w ++ rest))) ink.0 ∙ ap (onto_first c) (split_word w rest part parts ink.1 e)
+    cond-false (is_space c) ([] ∷ split (w ++ rest)) (onto_first c (split (w ++ rest))) ink.0 ∙ ap (onto_first c) (split_word w rest part parts ink.1 e)
 
 full_some : (w : List ℕ) (parts : List (List ℕ)) → 1 ≤ length w → full (w ∷ parts) ≡ w ∷ full parts
 full_some [] parts some = absurd (omega arith)

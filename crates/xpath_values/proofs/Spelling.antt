@@ -13,7 +13,8 @@ use Rattle.std.proofs.lemmas.Str.{IsAscii-append, chars-IsAscii, encodes-IsAscii
 use Rattle.std.proofs.lemmas.Str.Parse.{digit_from_value}
 use Rattle.xpath_values.specs.declared.number.Num.{Num}
 use Rattle.xpath_values.specs.declared.number.Num.TheVariants.{NaN, Whole}
-use Rattle.xpath_values.specs.Numerals.{is_white_space_at, AreSpaces, sign_text, signed, IsNumeral, Spells, without_spaces, trimmed, numeral_number, text_number}
+use Rattle.serna_kinds.specs.Blanks.{is_space}
+use Rattle.xpath_values.specs.Numerals.{AreSpaces, sign_text, signed, IsNumeral, Spells, without_spaces, trimmed, numeral_number, text_number}
 use Rattle.xpath_values.proofs.Digits.{AreDigits, digits_number_some, digits_number_whole, numeral_minus, numeral_plain}
 
 -- what holds of each element of two lists holds of both in a row, and of a list backwards
@@ -29,29 +30,29 @@ all_reverse P (x ∷ xs) p = subst (AllByRecursion P) (sym (reverse-append (x �
 spaces_front : (text : List ℕ) → (before : List ℕ) × AreSpaces before × (text ≡ before ++ without_spaces text)
 spaces_front [] = ([], tt, refl)
 spaces_front (c ∷ cs) =
-    elim (cases_Bool (is_white_space_at c)) [
+    elim (cases_Bool (is_space c)) [
       | inl e ↦ (
           let (before, spaces, whole) = spaces_front cs in
-          (c ∷ before, (e, spaces), ap (λ t. c ∷ t) (whole ∙ ap (λ t. before ++ t) (sym (cond-true (is_white_space_at c) (without_spaces cs) (c ∷ cs) e))))
+          (c ∷ before, (e, spaces), ap (λ t. c ∷ t) (whole ∙ ap (λ t. before ++ t) (sym (cond-true (is_space c) (without_spaces cs) (c ∷ cs) e))))
           )
-      | inr e ↦ ([], tt, sym (cond-false (is_white_space_at c) (without_spaces cs) (c ∷ cs) e))
+      | inr e ↦ ([], tt, sym (cond-false (is_space c) (without_spaces cs) (c ∷ cs) e))
     ]
 
 skipped : (before rest : List ℕ) → AreSpaces before → without_spaces (before ++ rest) ≡ without_spaces rest
 skipped [] rest s = refl
-skipped (c ∷ before) rest s = cond-true (is_white_space_at c) (without_spaces (before ++ rest)) (c ∷ (before ++ rest)) s.0 ∙ skipped before rest s.1
+skipped (c ∷ before) rest s = cond-true (is_space c) (without_spaces (before ++ rest)) (c ∷ (before ++ rest)) s.0 ∙ skipped before rest s.1
 
 -- not white space
 abbrev IsInk : ℕ → Type 0
-IsInk c = is_white_space_at c ≡ false
+IsInk c = is_space c ≡ false
 
 stopped : (xs rest : List ℕ) → AllByRecursion IsInk xs → 0 < length xs → without_spaces (xs ++ rest) ≡ xs ++ rest
 stopped [] rest t some = absurd (omega arith)
-stopped (c ∷ xs) rest t some = cond-false (is_white_space_at c) (without_spaces (xs ++ rest)) (c ∷ (xs ++ rest)) t.0
+stopped (c ∷ xs) rest t some = cond-false (is_space c) (without_spaces (xs ++ rest)) (c ∷ (xs ++ rest)) t.0
 
 stopped_all : (xs : List ℕ) → AllByRecursion IsInk xs → without_spaces xs ≡ xs
 stopped_all [] t = refl
-stopped_all (c ∷ xs) t = cond-false (is_white_space_at c) (without_spaces xs) (c ∷ xs) t.0
+stopped_all (c ∷ xs) t = cond-false (is_space c) (without_spaces xs) (c ∷ xs) t.0
 
 -- a text is what is left of it between white space
 pub trimmed_parts : (text : List ℕ) → (before : List ℕ) × (after : List ℕ) × AreSpaces before × AreSpaces after × (text ≡ before ++ (trimmed text ++ after))
@@ -62,7 +63,7 @@ trimmed_parts text =
       before,
       reverse back,
       spaces_before,
-      all_reverse (λ c. IsTrue (is_white_space_at c)) back spaces_back,
+      all_reverse (λ c. IsTrue (is_space c)) back spaces_back,
       whole ∙ ap (λ t. before ++ t) (sym (reverse-reverse rest) ∙ ap reverse whole_back ∙ reverse-append back (without_spaces (reverse rest))),
     )
 
@@ -71,7 +72,7 @@ pub trimmed_between : (before v after : List ℕ) → AreSpaces before → AreSp
 trimmed_between before v after sb sa ink some =
     let front : without_spaces (before ++ (v ++ after)) ≡ v ++ after = skipped before (v ++ after) sb ∙ stopped v after ink some in
     let back : without_spaces (reverse (v ++ after)) ≡ reverse v
-    = ap without_spaces (reverse-append v after) ∙ skipped (reverse after) (reverse v) (all_reverse (λ c. IsTrue (is_white_space_at c)) after sa)
+    = ap without_spaces (reverse-append v after) ∙ skipped (reverse after) (reverse v) (all_reverse (λ c. IsTrue (is_space c)) after sa)
     ∙ stopped_all (reverse v) (all_reverse IsInk v ink) in
     ap (λ t. reverse (without_spaces (reverse t))) front ∙ ap reverse back ∙ reverse-reverse v
 
@@ -144,7 +145,7 @@ ascii_cons : (c : ℕ) (cs : List ℕ) → c < 128 → IsAscii cs → IsAscii (c
 ascii_cons c cs low rest zero = low
 ascii_cons c cs low rest (suc i) = rest i
 
-space_low : (c : ℕ) → is_white_space_at c ≡ true → c < 128
+space_low : (c : ℕ) → is_space c ≡ true → c < 128
 space_low c e = grind (arith, nat_tests)
 
 ascii_spaces : (xs : List ℕ) → AreSpaces xs → IsAscii xs

@@ -1,20 +1,17 @@
 -- What text is a number, and the text of a number (XPath 1.0, 4.2 and 4.4). A text is the list of its
 -- characters. That a numeral has 1 to 15 digits and no point is this project's own.
-use Rattle.std.specs.Prelude.{◌≡◌, ℕ, ◌≤◌, ◌==◌, ◌&&◌, ◌||◌, nat_lt, nat_le, Bool, true, false, if◌then◌else◌, IsTrue, ℤ, pos, negsuc, neg_ℤ, unsigned_abs, List, [], ◌∷◌, ◌++◌, reverse, length}
+use Rattle.std.specs.Prelude.{◌≡◌, ℕ, ◌≤◌, ◌==◌, ◌&&◌, nat_lt, nat_le, Bool, true, false, if◌then◌else◌, IsTrue, ℤ, pos, negsuc, neg_ℤ, unsigned_abs, List, [], ◌∷◌, ◌++◌, reverse, length}
 use Rattle.std.specs.List.{AllByRecursion}
 use Rattle.std.specs.Str.{all_ascii_digits}
 use Rattle.std.specs.Str.Parse.{AllDigits, digits_value}
 use Rattle.std.specs.Fmt.{signed_decimal}
 use lib.Chars.{codes}
+use Rattle.serna_kinds.specs.Blanks.{is_space}
 use Rattle.xpath_values.specs.declared.number.Num.{Num}
 use Rattle.xpath_values.specs.declared.number.Num.TheVariants.{NaN, Whole}
 
--- white space: space, tab, CR and LF (XML 1.0, 2.3)
-abbrev pub is_white_space_at : ℕ → Bool
-is_white_space_at c = c == 32 || c == 9 || c == 13 || c == 10
-
 abbrev pub AreSpaces : List ℕ → Type 0
-AreSpaces text = AllByRecursion (λ c. IsTrue (is_white_space_at c)) text
+AreSpaces text = AllByRecursion (λ c. IsTrue (is_space c)) text
 
 abbrev pub sign_text : Bool → List ℕ
 sign_text true = codes "-"
@@ -48,7 +45,7 @@ pub record Spells (text : List ℕ) (value : ℤ) : Type 0 where
 -- the text without the white space that it begins with, and without the white space at both ends
 abbrev pub without_spaces : List ℕ → List ℕ
 without_spaces [] = []
-without_spaces (c ∷ cs) = if is_white_space_at c then without_spaces cs else c ∷ cs
+without_spaces (c ∷ cs) = if is_space c then without_spaces cs else c ∷ cs
 
 abbrev pub trimmed : List ℕ → List ℕ
 trimmed text = reverse (without_spaces (reverse (without_spaces text)))

@@ -4,7 +4,7 @@ use Rattle.std.specs.Option.{option_map_or}
 use Rattle.std.specs.List.{AllByRecursion, starts_with, range_with_len, enumerate_from, filter_map, slice_split, join_with_byte}
 use Rattle.xpath_values.specs.declared.number.Num.{Num}
 use Rattle.xpath_values.specs.declared.number.Num.TheVariants.{NaN, Whole}
-use Rattle.xpath_values.specs.Numerals.{is_white_space_at}
+use Rattle.serna_kinds.specs.Blanks.{is_space}
 use Rattle.xpath_values.specs.Values.{is_empty}
 
 -- the first place at which the other text begins, the front being 0
@@ -53,12 +53,12 @@ counts count = option_to_list count
 
 -- the words: what stands between white space
 abbrev pub words : List ℕ → List (List ℕ)
-words text = filter (λ word. not (is_empty word)) (slice_split is_white_space_at text)
+words text = filter (λ word. not (is_empty word)) (slice_split is_space text)
 
 -- a character at least, and no white space
 pub record IsWord (word : List ℕ) : Type 0 where
   pub some : 1 ≤ length word
-  pub ink : AllByRecursion (λ c. is_white_space_at c ≡ false) word
+  pub ink : AllByRecursion (λ c. is_space c ≡ false) word
 
 -- normalize-space: the words, with one space between each two
 abbrev pub normalized : List ℕ → List ℕ

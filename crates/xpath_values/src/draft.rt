@@ -1,4 +1,4 @@
-ghost use Rattle.std.specs.Prelude.{◌≡◌, [], ◌∷◌, ◌++◌, OnOk};
+ghost use Rattle.std.specs.Prelude.{◌≡◌, [], ◌∷◌, ◌++◌, IfOk, OnOk};
 ghost use Rattle.std.specs.Str.{chars};
 ghost use Rattle.xpath_values.specs.Values.{is_empty};
 
@@ -52,9 +52,9 @@ impl Draft {
         self.text.is_empty()
     }
 
-    /// The text as it is written. Takes no memory.
-    pub(crate) fn into_chars(self) -> Chars
-        ensures { result ≡ self }
+    /// The text as it is written.
+    pub(crate) fn into_chars(self) -> Result<Chars, NoMemory>
+        ensures { IfOk result (λ text. text ≡ self) }
     {
         let Draft { text } = self;
         Chars::from_string(text)

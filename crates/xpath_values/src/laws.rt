@@ -33,7 +33,7 @@ pub fn remainders()
     ensures by_zero { (number : Num) → modulo number (Whole (pos 0)) ≡ NaN }
 {}
 
-/// Two node-sets compare where some member of each does. No comparison but `!=` holds of NaN. A comparison says what the
+/// Two node-sets compare where some member of each does. Of numbers no comparison but `!=` holds of NaN. A comparison says what the
 /// turned one says with the sides changed.
 pub fn comparisons_agree()
     ensures pair { (op : CompareOp) (lefts rights : List (List ℕ)) → (compares op (Nodes lefts) (Nodes rights) ≡ true)

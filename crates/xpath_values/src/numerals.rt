@@ -3,10 +3,10 @@ ghost use Rattle.std.specs.Option.{SomeIff};
 ghost use Rattle.std.specs.Str.{chars};
 ghost use Rattle.std.specs.Str.Parse.{AllDigits, digits_value};
 ghost use Rattle.xpath_values.specs.Numbers.{sum_of};
-ghost use Rattle.xpath_values.specs.Numerals.{is_white_space_at, without_spaces, trimmed, digits_number, numeral_number, text_number, number_text_of, Spells};
+ghost use Rattle.xpath_values.specs.Numerals.{without_spaces, trimmed, digits_number, numeral_number, text_number, number_text_of, Spells};
 
 use crate::number::Num;
-use serna_kinds::{Chars, NoMemory};
+use serna_kinds::{Chars, NoMemory, is_space};
 use std::alloc::Global;
 
 /// The most digits of a number, leading zeros among them.
@@ -30,7 +30,7 @@ pub fn number_text(alloc: Global, number: Num) -> Result<Chars, NoMemory>
         Num::NaN => Chars::from_text(alloc, "NaN"),
         Num::Whole(value) => {
             let text = format!(in alloc; "{value}")?;
-            Ok(Chars::from_string(text))
+            Chars::from_string(text)
         }
     }
 }
@@ -50,13 +50,6 @@ pub fn sum(texts: &[Chars]) -> Num
     Num::new(total)
 }
 
-/// White space is space, tab, CR and LF (XML 1.0, section 2.3).
-pub(crate) fn is_white_space(character: char) -> bool
-    ensures { result ≡ is_white_space_at character }
-{
-    matches!(character, ' ' | '\t' | '\r' | '\n')
-}
-
 /// The text without the white space at its ends.
 fn trim(text: &[u8]) -> &[u8]
     ensures { result.now ≡ trimmed text.now }
@@ -70,7 +63,7 @@ fn trim_start(text: &[u8]) -> &[u8]
 {
     let mut rest = text;
     while let [first, behind @ ..] = rest {
-        if !is_white_space(char::from(*first)) {
+        if !is_space(char::from(*first)) {
             break;
         }
         rest = behind;
@@ -84,7 +77,7 @@ fn trim_end(text: &[u8]) -> &[u8]
 {
     let mut rest = text;
     while let [before @ .., last] = rest {
-        if !is_white_space(char::from(*last)) {
+        if !is_space(char::from(*last)) {
             break;
         }
         rest = before;

@@ -7,8 +7,7 @@ ghost use Rattle.xpath_values.specs.Texts.{first_cut, text_before, text_after, s
 
 use crate::draft::Draft;
 use crate::number::Num;
-use crate::numerals::is_white_space;
-use serna_kinds::{Chars, NoMemory};
+use serna_kinds::{Chars, NoMemory, is_space};
 use std::alloc::Global;
 
 /// `concat`: the texts one after another.
@@ -19,7 +18,7 @@ pub(crate) fn concat(alloc: Global, texts: &[Chars]) -> Result<Chars, NoMemory>
     for text in texts {
         joined.push_text(text.as_text())?;
     }
-    Ok(joined.into_chars())
+    joined.into_chars()
 }
 
 /// `starts-with`: whether the text begins with the prefix.
@@ -103,14 +102,14 @@ pub(crate) fn normalize_space(alloc: Global, text: &str) -> Result<Chars, NoMemo
     let mut normal = Draft::new(alloc);
     let mut is_between = true;
     for character in text.chars() {
-        if is_white_space(character) {
+        if is_space(character) {
             is_between = true;
         } else {
             push_of_word(&mut normal, is_between, character)?;
             is_between = false;
         }
     }
-    Ok(normal.into_chars())
+    normal.into_chars()
 }
 
 /// Writes a character of a word, behind a space where it begins a word that is not the first.
@@ -131,7 +130,7 @@ pub(crate) fn translate(alloc: Global, text: &str, from: &str, to: &str) -> Resu
     for character in text.chars() {
         push_some(&mut outcome, translation(character, from, to))?;
     }
-    Ok(outcome.into_chars())
+    outcome.into_chars()
 }
 
 /// Writes a character, if there is one.

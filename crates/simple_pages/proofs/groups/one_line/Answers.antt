@@ -1,4 +1,4 @@
-use Rattle.std.proofs.Common.{◌≡◌, List, [], ◌∷◌, ◌++◌, map, refl, sym, ap, ◌∙◌, append-nil}
+use Rattle.std.proofs.Common.{◌≡◌, [], ◌∷◌, ◌++◌, map, refl, sym, ap, ◌∙◌, append-nil}
 use Rattle.result_origin.specs.Items.{parts_in}
 use Rattle.simple_pages.specs.Groups.{groups_in, runs_in}
 use Rattle.simple_pages.specs.Pages.{line_at}

@@ -1,7 +1,6 @@
 use Rattle.std.proofs.Common.{◌≡◌, List, [], ◌∷◌, ◌++◌, false, refl, sym, ap, ◌∙◌}
 use Rattle.result_origin.specs.declared.pages.Line.{Line}
 use Rattle.result_origin.specs.declared.pages.Page.{Page}
-use Rattle.result_origin.specs.Items.{parts_in}
 use Rattle.simple_pages.specs.Groups.{is_root, runs_in}
 use Rattle.simple_pages.specs.Pages.{line_at, page_lines}
 use Rattle.simple_pages.specs.Shown.{marks_in}

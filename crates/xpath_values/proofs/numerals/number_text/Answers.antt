@@ -17,4 +17,4 @@ pub returns-in_ok-text-in-Whole : goal.returns-in_ok-text-in-Whole
 returns-in_ok-text-in-Whole c =
     let value : ℤ = c.in-Whole.value in
     let fits : SFits w64 value = search rules in
-    c.from_string.ensures ∙ (ap chars c.in_ok-text-in-Whole.ensures.ok ∙ (ap (λ z. chars (signed_decimal z)) (to_z-of_z w64 value fits) ∙ (chars-IsAscii (signed_decimal value) (IsAscii-signed value fits.sfits) ∙ ap number_text_of (sym c.in-Whole.is))))
+    subst (λ t. IfOk c.from_string.result (λ text. text ≡ t)) (ap chars c.in_ok-text-in-Whole.ensures.ok ∙ (ap (λ z. chars (signed_decimal z)) (to_z-of_z w64 value fits) ∙ (chars-IsAscii (signed_decimal value) (IsAscii-signed value fits.sfits) ∙ ap number_text_of (sym c.in-Whole.is)))) c.from_string.ensures

@@ -1,4 +1,4 @@
-use Rattle.std.proofs.Common.{◌≡◌, ℕ, List, [], ◌∷◌, ◌++◌, Option, None, Some, sym, ◌∙◌, ap, append_assoc, append-nil}
+use Rattle.std.proofs.Common.{◌≡◌, ℕ, List, [], ◌∷◌, ◌++◌, Option, None, Some, IfOk, subst, sym, ◌∙◌, ap, append_assoc, append-nil}
 use Rattle.std.specs.List.{filter_map, cons_option}
 use Rattle.std.specs.Option.{option_to_list}
 use Rattle.std.specs.Str.{chars}
@@ -28,5 +28,6 @@ pub returns : goal.returns
 returns c =
     let from : List ℕ = chars c.args.from.now in
     let to : List ℕ = chars c.args.to.now in
-    c.into_chars.ensures ∙ (sym (append-nil c.loop-character.outcome)
-    ∙ (ap (λ t. c.loop-character.outcome ++ translated t from to) (sym (chars_none _ c.in-None.ensures.steps.0.0)) ∙ c.loop-character.invariant.1))
+    let P : List ℕ → Type 0 = λ t. IfOk c.into_chars.result (λ text. text ≡ t) in
+    subst P (sym (append-nil c.loop-character.outcome)
+    ∙ (ap (λ t. c.loop-character.outcome ++ translated t from to) (sym (chars_none _ c.in-None.ensures.steps.0.0)) ∙ c.loop-character.invariant.1)) c.into_chars.ensures

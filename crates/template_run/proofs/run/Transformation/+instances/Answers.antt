@@ -99,7 +99,7 @@ add_children-returns-then-is_childless_element-clause-value g t c =
     let childless = c.is_childless_element.ensures.0 c.if-is_childless_element.true in
     added
     ∙ ap (λ (ps : List (ResultPart ℕ)). c.args.out.now ++ ps)
-    (ap (λ (text : List ℕ). Says (Run text (origin.Into c.args.current.node)) ∷ []) c.new.ensures
+    (ap (λ (text : List ℕ). Says (Run text (origin.Into c.args.current.node)) ∷ []) c.in_ok-nothing.ensures
     ∙ into_filled c.args.self.now.names.now c.args.self.now.rules.now c.args.current.left source c.args.current.node spot.body spot.kids (is.1 ∙ childless.0)
     (ap length (sym (c.in_ok-kids.ensures.value source spot agrees is.0)) ∙ childless.1)))
     c.push_run.ensures.ok
