@@ -59,9 +59,9 @@ impl Model for Editor {
 
     ghost coded = { editor_code (Prim.hlevel codes) (source_code (Prim.hlevel codes) (Prim.hlevel codes)) (Prim.hlevel codes) (Prim.hlevel codes) (Prim.hlevel codes) };
 
-    ghost view = { λ e. record { names = e.names; source = e.source; revision = e.revision; caret = e.caret; stops = option_map (λ boundaries. stops_of boundaries.items) e.view; since = e.since.items } };
+    ghost view = { λ e. record { names = e.names; source = e.source.source; revision = e.revision; caret = e.caret; stops = option_map (λ boundaries. stops_of boundaries.items) e.view; since = e.since.items } };
 
-    ghost invariant = { λ e. IsSomeSound (record { names = e.names; source = e.source; revision = e.revision; caret = e.caret; stops = option_map (λ boundaries. stops_of boundaries.items) e.view; since = e.since.items }) };
+    ghost invariant = { λ e. IsSomeSound (record { names = e.names; source = e.source.source; revision = e.revision; caret = e.caret; stops = option_map (λ boundaries. stops_of boundaries.items) e.view; since = e.since.items }) };
 }
 
 /// Why a text was not typed.
@@ -81,8 +81,8 @@ impl From<NoMemory> for TypeFault {
 impl Editor {
     /// The editor of a source whose names are numbers of a table, before the first command. Takes no memory.
     pub fn open(alloc: Global, names: NameTable, source: SourceTree) -> Editor
-        requires { IsSomeSound (opened names source) }
-        ensures { result ≡ opened names source }
+        requires { IsSomeSound (opened names source.source) }
+        ensures { result ≡ opened names source.source }
     {
         Editor {
             names,
@@ -97,10 +97,12 @@ impl Editor {
     /// Obeys a command line, and gives the text that it is answered, each line with its LF. `style` is the stylesheet, whose names
     /// are numbers of the editor's table.
     ///
-    /// `Err` comes where memory runs out. The editor is then of no further use.
+    /// `Err` comes where memory runs out. The editor is then as it was: all the memory of a step is taken before it changes
+    /// anything.
     pub fn obey(&mut self, alloc: Global, style: &Style, line: &[u8]) -> Result<String, NoMemory>
         ensures state { OnOk result (self.new ≡ (step style.now self.old line.now).0) }
         ensures answer { IfOk result (λ text. string_bytes text ≡ reply_text (step style.now self.old line.now).1) }
+        ensures kept { OnErr result (self.new ≡ self.old) }
     {
         match read_command(alloc, line)? {
             Command::Show => {
@@ -108,7 +110,7 @@ impl Editor {
                 Ok(text)
             }
             Command::At(page, line, column) => {
-                let text = reply_line(alloc, self.put_at(page, line, column))?;
+                let text = self.answer_at(alloc, page, line, column)?;
                 Ok(text)
             }
             Command::Typing(text) => {
@@ -170,6 +172,7 @@ impl Editor {
     fn show(&mut self, alloc: Global, style: &Style) -> Result<String, NoMemory>
         ensures state { OnOk result (self.new ≡ shown style.now self.old) }
         ensures answer { IfOk result (λ text. string_bytes text ≡ reply_text (obeyed style.now self.old command.Show).1) }
+        ensures kept { OnErr result (self.new ≡ self.old) }
     {
         let view = view_of(alloc, style, &self.names, &self.source)?;
         self.view = Some(view.boundaries);
@@ -177,10 +180,33 @@ impl Editor {
         Ok(view.text)
     }
 
+    /// What `at` is answered.
+    fn answer_at(
+        &mut self,
+        alloc: Global,
+        page: u32,
+        line: u32,
+        column: u32,
+    ) -> Result<String, NoMemory>
+        ensures state { OnOk result (self.new ≡ (put_at self.old page line column self.old.stops).0) }
+        ensures answer { IfOk result (λ text. string_bytes text ≡ reply_text (put_at self.old page line column self.old.stops).1) }
+        ensures kept { OnErr result (self.new ≡ self.old) }
+    {
+        let done = reply_line(alloc, Ok(()))?;
+        match self.put_at(page, line, column) {
+            Ok(()) => Ok(done),
+            Err(rule) => {
+                let refusal = reply_line(alloc, Err(rule))?;
+                Ok(refusal)
+            }
+        }
+    }
+
     /// `at`: puts the caret at the first stop there that is at a place, carried through the prims since the show.
     fn put_at(&mut self, page: u32, line: u32, column: u32) -> Result<(), Rule>
         ensures state { self.new ≡ (put_at self.old page line column self.old.stops).0 }
         ensures answer { reply_of result ≡ (put_at self.old page line column self.old.stops).1 }
+        ensures kept { OnErr result (self.new ≡ self.old) }
     {
         let Some(boundaries) = &self.view else {
             return Err(Rule::NoView);
@@ -216,15 +242,14 @@ impl Editor {
         requires { text ≢ [] }
         ensures state { OnOk result (self.new ≡ (typed self.old text self.old.caret).0) }
         ensures answer { IfOk result (λ line. string_bytes line ≡ reply_text (typed self.old text self.old.caret).1) }
+        ensures kept { OnErr result (self.new ≡ self.old) }
     {
+        let done = reply_line(alloc, Ok(()))?;
         match self.type_text(alloc, text) {
-            Ok(()) => {
-                let line = reply_line(alloc, Ok(()))?;
-                Ok(line)
-            }
+            Ok(()) => Ok(done),
             Err(TypeFault::Rule(rule)) => {
-                let line = reply_line(alloc, Err(rule))?;
-                Ok(line)
+                let refusal = reply_line(alloc, Err(rule))?;
+                Ok(refusal)
             }
             Err(TypeFault::NoMemory) => Err(AllocError),
         }
@@ -448,7 +473,7 @@ fn comes_from(place: CaretPlace, here: &Boundary) -> bool
 
 /// How many bytes a text node has.
 fn text_len(source: &SourceTree, node: NodeName) -> usize
-    ensures { (text : List ℕ) → text_at source.now node.0 ≡ Some text → result ≡ bytes_of text }
+    ensures { (text : List ℕ) → text_at source.now.source node.0 ≡ Some text → result ≡ bytes_of text }
 {
     match source.read(Cell {
         node,

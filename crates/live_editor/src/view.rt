@@ -41,8 +41,8 @@ pub(crate) fn view_of(
     names: &NameTable,
     source: &SourceTree,
 ) -> Result<View, NoMemory>
-    ensures text { IfOk result (λ view. string_bytes view.text ≡ view_text names.now style.now source.now) }
-    ensures boundaries { IfOk result (λ view. boundaries_of view.boundaries.items ≡ flat_map page_boundaries (view_pages names.now style.now source.now)) }
+    ensures text { IfOk result (λ view. string_bytes view.text ≡ view_text names.now style.now source.now.source) }
+    ensures boundaries { IfOk result (λ view. boundaries_of view.boundaries.items ≡ flat_map page_boundaries (view_pages names.now style.now source.now.source)) }
 {
     let mut tape = Tape::new(alloc);
     let whole = transform(alloc, style, source, names, &mut tape)?;

@@ -113,6 +113,8 @@ typed_text s number at piece text e =
     record {
       there = ap (option_and_then (facet_of facet.Text)) (spot_text new number.0 (inserted at piece text) there).2;
       elsewhere = λ other apart. text_elsewhere s number.0 (inserted at piece) other apart;
+      declared = refl;
+      made = refl;
     }
 
 -- a new text as the first child of an element
@@ -165,6 +167,8 @@ typed_into names s parent number text proper is new =
       label = ap (option_and_then (facet_of facet.Label)) there;
       up = ap (option_and_then (facet_of facet.Up)) there;
       characters = ap (option_and_then (facet_of facet.Text)) there;
+      no_kids = ap (option_and_then (facet_of facet.Kids)) there;
+      no_attributes = ap (option_and_then (facet_of facet.Attrs)) there;
       first = λ kids was.
           let before : Some (content.Kids (map named (numbers is.0.kids))) ≡ Some (content.Kids kids) =
           sym (element_kids is.0.body is.0.kids is.2) ∙ sym (ap (option_and_then (facet_of facet.Kids)) is.1) ∙ was in
@@ -177,6 +181,8 @@ typed_into names s parent number text proper is new =
       elsewhere = λ other not_new not_kids.
           ap (option_and_then (facet_of other.facet)) (spot_in-with_kids None parent.0 other.node.0 number.0 0 (source.Text text) s.tree not_new (proper.distinct parent.0))
           ∙ found_kids_facet parent.0 other.node.0 (inserted_at 0 (leaf number.0 (source.Text text))) other.facet (spot_of s other.node.0) (λ e. not_kids (sym e));
+      declared = refl;
+      made = omega (arith, new);
     }
 
 -- what an accepted answer leaves

@@ -12,3 +12,4 @@ pub mod Runs
 pub mod Seen
 pub mod Steps
 pub mod Keystrokes
+pub mod Printing

@@ -1,10 +1,11 @@
 -- Printable ASCII, and what it means.
-use Rattle.std.proofs.Common.{◌≡◌, ℕ, ◌<◌, ◌==◌, ◌&&◌, nat_le, Bool, true, false, List, [], ◌∷◌, ◌++◌, if◌then◌else◌, refl, sym, ap, ◌∙◌, arith}
-use Rattle.std.proofs.lemmas.Bool.{and_parts, leb-true, false≢true}
-use Rattle.std.proofs.lemmas.Str.{chars-IsAscii, IsUtf8-from_ascii}
+use Rattle.std.proofs.Common.{◌≡◌, ℕ, ◌<◌, ◌≤◌, ◌==◌, ◌&&◌, nat_le, Bool, true, false, List, [], ◌∷◌, ◌++◌, if◌then◌else◌, refl, sym, ap, ◌∙◌, arith}
+use Rattle.std.proofs.lemmas.Bool.{and_parts, leb-true, ne_eqb, false≢true}
+use Rattle.std.proofs.lemmas.Str.{chars-IsAscii, IsUtf8-from_ascii, is_utf8-from_IsUtf8}
 use Rattle.std.proofs.lemmas.Str.Ascii.{IsAscii-nil, IsAscii-cons}
+use Rattle.std.specs.List.{list_all}
 use Rattle.std.specs.Str.{IsAscii, IsUtf8}
-use Rattle.tree_lines.specs.Texts.{unescaped_behind, meant}
+use Rattle.tree_lines.specs.Texts.{is_allowed, is_line, unescaped_behind, meant}
 use Rattle.plain_editor.specs.Plain.{is_plain}
 
 ascii_byte : (c : ℕ) → (nat_le 32 c && nat_le c 126) ≡ true → c < 128
@@ -44,3 +45,22 @@ meant_some c cs = if_some (c == 92) (unescaped_behind true cs) (c ∷ unescaped_
 pub plain_meant : (c : ℕ) (cs : List ℕ) → is_plain (c ∷ cs) ≡ true → meant (c ∷ cs) ≡ [] → ⊥
 plain_meant c cs plain e =
     false≢true (sym (meant_some c cs) ∙ ap (λ t. is_none (unescaped_behind false t)) (sym (chars-IsAscii (c ∷ cs) (IsAscii-plain (c ∷ cs) plain))) ∙ ap is_none e)
+
+-- a line may have it
+allowed_byte : (c : ℕ) → (nat_le 32 c && nat_le c 126) ≡ true → is_allowed c ≡ true
+allowed_byte c h =
+    let parts = and_parts (nat_le 32 c) (nat_le c 126) h in
+    let last : c ≤ 126 = leb-true c 126 parts.1 in
+    let one : (c == 65534) ≡ false = ne_eqb c 65534 (λ e. absurd (omega arith)) in
+    let other : (c == 65535) ≡ false = ne_eqb c 65535 (λ e. absurd (omega arith)) in
+    rw (parts.0, one, other) refl
+
+all_allowed : (t : List ℕ) → is_plain t ≡ true → list_all is_allowed t ≡ true
+all_allowed [] h = refl
+all_allowed (c ∷ cs) h =
+    let parts = and_parts (nat_le 32 c && nat_le c 126) (is_plain cs) h in
+    rw (allowed_byte c parts.0) (all_allowed cs parts.1)
+
+pub is_line-plain : (t : List ℕ) → is_plain t ≡ true → is_line t ≡ true
+is_line-plain t h =
+    rw (is_utf8-from_IsUtf8 t (IsUtf8-plain t h)) (ap (list_all is_allowed) (chars-IsAscii t (IsAscii-plain t h)) ∙ all_allowed t h)

@@ -1,9 +1,9 @@
 -- The numbers of names do not show in the text of the view.
-use Rattle.std.proofs.Common.{◌≡◌, ℕ, zero, suc, ◌+◌, ◌==◌, List, [], ◌∷◌, ◌++◌, Bool, true, false, Option, Some, None, if◌then◌else◌, refl, sym, ap, ◌∙◌}
+use Rattle.std.proofs.Common.{◌≡◌, ℕ, zero, suc, ◌+◌, ◌==◌, drop, length, List, [], ◌∷◌, ◌++◌, Bool, true, false, Option, Some, None, if◌then◌else◌, refl, sym, ap, ◌∙◌}
 use Rattle.std.specs.List.{flat_map}
 use Rattle.std.specs.Option.{option_map}
 use Rattle.serna_kinds.specs.Names.{NameParts, Space}
-use Rattle.tree_lines.specs.Written.{Written}
+use Rattle.tree_lines.specs.Written.{Written, written_lines}
 use Rattle.tree_lines.specs.Written as written
 use Rattle.tree_lines.specs.Texts.{meant}
 use Rattle.tree_lines.specs.Given.{Given, count_of, with_text, given_in, spaces_of, given_of}
@@ -73,25 +73,25 @@ node_text-unnamed (suc left) s t n same =
     ∙ ap (spot_text (node_text left t)) (spot_in-unnamed None n s.tree)
     ∙ spot_text-unnamed (node_text left t) (node_text left s) (λ m. node_text-unnamed left s t m same) (spot_in None n s.tree)
 
--- a tree with one name in place of every name, and without attributes
+-- a tree with one name in place of every name, without attributes and without the numbers of lines
 abbrev nameless : Given → Given
 nameless given.end = given.end
 nameless (given.text t rest) = given.text t (nameless rest)
 nameless (given.comment t rest) = given.comment t (nameless rest)
-nameless (given.element name attributes content rest) = given.element (record { 0 = 0 }) [] (nameless content) (nameless rest)
+nameless (given.element name attributes line content rest) = given.element (record { 0 = 0 }) [] 0 (nameless content) (nameless rest)
 
 count_of-nameless : (g : Given) → count_of (nameless g) ≡ count_of g
 count_of-nameless given.end = refl
 count_of-nameless (given.text t rest) = ap (λ n. 1 + n) (count_of-nameless rest)
 count_of-nameless (given.comment t rest) = ap (λ n. 1 + n) (count_of-nameless rest)
-count_of-nameless (given.element name attributes content rest) =
+count_of-nameless (given.element name attributes line content rest) =
     ap (λ n. 1 + n + count_of (nameless rest)) (count_of-nameless content) ∙ ap (λ n. 1 + count_of content + n) (count_of-nameless rest)
 
 unnamed-numbered : (k : ℕ) (g : Given) → unnamed (numbered k g) ≡ numbered k (nameless g)
 unnamed-numbered k given.end = refl
 unnamed-numbered k (given.text t rest) = ap (source.node k (source.Text t) source.none) (unnamed-numbered (k + 1) rest)
 unnamed-numbered k (given.comment t rest) = ap (source.node k (source.Comment t) source.none) (unnamed-numbered (k + 1) rest)
-unnamed-numbered k (given.element name attributes content rest) =
+unnamed-numbered k (given.element name attributes line content rest) =
     ap (λ f. source.node k (source.Element (record { 0 = 0 }) []) f (unnamed (numbered (k + 1 + count_of content) rest))) (unnamed-numbered (k + 1) content)
     ∙ ap (source.node k (source.Element (record { 0 = 0 }) []) (numbered (k + 1) (nameless content))) (unnamed-numbered (k + 1 + count_of content) rest)
     ∙ ap (λ n. source.node k (source.Element (record { 0 = 0 }) []) (numbered (k + 1) (nameless content)) (numbered (k + 1 + n) (nameless rest))) (sym (count_of-nameless content))
@@ -102,17 +102,24 @@ nameless-with_text [] g = refl
 nameless-with_text (c ∷ cs) given.end = refl
 nameless-with_text (c ∷ cs) (given.text t rest) = refl
 nameless-with_text (c ∷ cs) (given.comment t rest) = refl
-nameless-with_text (c ∷ cs) (given.element name attributes content rest) = refl
+nameless-with_text (c ∷ cs) (given.element name attributes line content rest) = refl
 
-nameless-given_in : (names names₁ : List NameParts) (spaces : List Space) (d : Written) → nameless (given_in names spaces d) ≡ nameless (given_in names₁ spaces d)
-nameless-given_in names names₁ spaces written.end = refl
-nameless-given_in names names₁ spaces (written.text t rest) =
-    nameless-with_text (meant t) (given_in names spaces rest) ∙ ap (with_text (meant t)) (nameless-given_in names names₁ spaces rest)
-    ∙ sym (nameless-with_text (meant t) (given_in names₁ spaces rest))
-nameless-given_in names names₁ spaces (written.comment t rest) = ap (given.comment (meant t)) (nameless-given_in names names₁ spaces rest)
-nameless-given_in names names₁ spaces (written.element name attributes content rest) =
-    ap (λ g. given.element (record { 0 = 0 }) [] g (nameless (given_in names spaces rest))) (nameless-given_in names names₁ spaces content)
-    ∙ ap (given.element (record { 0 = 0 }) [] (nameless (given_in names₁ spaces content))) (nameless-given_in names names₁ spaces rest)
+nameless-given_in : (names names₁ : List NameParts) (spaces : List Space) (lines lines₁ : List ℕ) (d : Written)
+    → nameless (given_in names spaces lines d) ≡ nameless (given_in names₁ spaces lines₁ d)
+nameless-given_in names names₁ spaces lines lines₁ written.end = refl
+nameless-given_in names names₁ spaces lines lines₁ (written.text t rest) =
+    nameless-with_text (meant t) (given_in names spaces (drop 1 lines) rest)
+    ∙ ap (with_text (meant t)) (nameless-given_in names names₁ spaces (drop 1 lines) (drop 1 lines₁) rest)
+    ∙ sym (nameless-with_text (meant t) (given_in names₁ spaces (drop 1 lines₁) rest))
+nameless-given_in names names₁ spaces lines lines₁ (written.comment t rest) =
+    ap (given.comment (meant t)) (nameless-given_in names names₁ spaces (drop 1 lines) (drop 1 lines₁) rest)
+nameless-given_in names names₁ spaces lines lines₁ (written.element name attributes content rest) =
+    let inner : List ℕ = drop (1 + length attributes) lines in
+    let inner₁ : List ℕ = drop (1 + length attributes) lines₁ in
+    let behind : List ℕ = drop (1 + length (written_lines content)) inner in
+    let behind₁ : List ℕ = drop (1 + length (written_lines content)) inner₁ in
+    ap (λ g. given.element (record { 0 = 0 }) [] 0 g (nameless (given_in names spaces behind rest))) (nameless-given_in names names₁ spaces inner inner₁ content)
+    ∙ ap (given.element (record { 0 = 0 }) [] 0 (nameless (given_in names₁ spaces inner₁ content))) (nameless-given_in names names₁ spaces behind behind₁ rest)
 
 view_text-nameless : (spaces : List Space) (g : Given) → view_text (begun spaces (nameless g)) ≡ view_text (begun spaces g)
 unfolding view_text begun
@@ -121,11 +128,11 @@ view_text-nameless spaces g =
     (record { tree = source.node 0 source.Root (numbered 1 (nameless g)) source.none; made = count_of (nameless g); spaces = spaces }) 0
     (ap (λ f. source.node 0 source.Root f source.none) (unnamed-numbered 1 g))
 
-pub view_text-renamed : (names names₁ : List NameParts) (spaces : List Space) (document : Written) →
-    view_text (begun spaces (given_of names document)) ≡ view_text (begun spaces (given_of names₁ document))
-view_text-renamed names names₁ spaces document =
-    sym (view_text-nameless spaces (given_of names document))
-    ∙ ap (λ g. view_text (begun spaces g)) (nameless-given_in names names₁ (spaces_of document) document)
-    ∙ view_text-nameless spaces (given_of names₁ document)
+pub view_text-renamed : (names names₁ : List NameParts) (lines lines₁ : List ℕ) (spaces : List Space) (document : Written) →
+    view_text (begun spaces (given_of names lines document)) ≡ view_text (begun spaces (given_of names₁ lines₁ document))
+view_text-renamed names names₁ lines lines₁ spaces document =
+    sym (view_text-nameless spaces (given_of names lines document))
+    ∙ ap (λ g. view_text (begun spaces g)) (nameless-given_in names names₁ (spaces_of document) lines lines₁ document)
+    ∙ view_text-nameless spaces (given_of names₁ lines₁ document)
 
 pub ruleset all = view_text-renamed

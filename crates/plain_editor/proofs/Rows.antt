@@ -15,7 +15,8 @@ use Rattle.plain_editor.specs.Sheets.{Sheet, sheet_lines, IsSheet}
 use Rattle.plain_editor.specs.Input.{document_head, script_head, IsInput}
 use Rattle.plain_editor.specs.Commands.{show_word}
 use Rattle.plain_editor.specs.Stops.{view_stops}
-use Rattle.plain_editor.specs.Rows.{oak, empty_document, one_text, cut_off, text_outside, another_head, empty_doc, oak_doc, plain, types_at_end, typed_at_end, types_into, typed_into, asks, told_what_it_asks, full_doc, full_document, full_script, full_answers, block_sheet, two_doc, block_input, block_script, block_answers, answered}
+use Rattle.plain_editor.specs.Answers.{answers}
+use Rattle.plain_editor.specs.Rows.{oak, empty_document, one_text, cut_off, text_outside, another_head, empty_doc, oak_doc, plain, types_at_end, typed_at_end, types_into, typed_into, asks, told_what_it_asks, full_doc, full_document, full_script, full_answers, block_sheet, two_doc, block_input, block_script, block_answers}
 
 plain_lines : (lines : List (List ℕ)) → list_all is_plain lines ≡ true → AllByRecursion (λ line. IsTrue (is_plain line)) lines
 plain_lines [] all = tt
@@ -74,31 +75,31 @@ block_is_input = record {
   short = lit≤ tt;
 }
 
-pub empty_answered : answered None empty_doc (show_word ∷ []) ≡ plain []
+pub empty_answered : answers None empty_doc (show_word ∷ []) ≡ plain []
 unfolding digits view_stops batch whole begun chars is_utf8 lib.Utf8.encode
 empty_answered = refl
 
-pub oak_answered : answered None oak_doc (show_word ∷ []) ≡ plain oak
+pub oak_answered : answers None oak_doc (show_word ∷ []) ≡ plain oak
 unfolding digits view_stops batch whole begun chars is_utf8 lib.Utf8.encode
 oak_answered = refl
 
-pub at_end_answered : answered None oak_doc types_at_end ≡ typed_at_end
+pub at_end_answered : answers None oak_doc types_at_end ≡ typed_at_end
 unfolding digits view_stops batch whole begun chars is_utf8 lib.Utf8.encode
 at_end_answered = refl
 
-pub into_answered : answered None empty_doc types_into ≡ typed_into
+pub into_answered : answers None empty_doc types_into ≡ typed_into
 unfolding digits view_stops batch whole begun chars is_utf8 lib.Utf8.encode
 into_answered = refl
 
-pub asks_answered : answered None empty_doc asks ≡ told_what_it_asks
+pub asks_answered : answers None empty_doc asks ≡ told_what_it_asks
 unfolding digits view_stops batch whole begun chars is_utf8 lib.Utf8.encode
 asks_answered = refl
 
-pub full_answered : answered None full_doc full_script ≡ full_answers
+pub full_answered : answers None full_doc full_script ≡ full_answers
 unfolding digits view_stops batch whole begun chars is_utf8 lib.Utf8.encode
 full_answered = refl
 
-pub block_answered : answered (Some block_sheet) two_doc block_script ≡ block_answers
+pub block_answered : answers (Some block_sheet) two_doc block_script ≡ block_answers
 unfolding digits view_stops batch whole begun chars is_utf8 lib.Utf8.encode
 block_answered = refl
 

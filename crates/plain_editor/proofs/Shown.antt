@@ -1,9 +1,9 @@
 -- The text of the view is what the text lines of the document say, one after another.
-use Rattle.std.proofs.Common.{◌≡◌, ℕ, zero, suc, ◌+◌, ◌<◌, ◌≤◌, List, [], ◌∷◌, ◌++◌, Option, Some, None, refl, ap, ◌∙◌, inl, inr, arith, append_assoc}
+use Rattle.std.proofs.Common.{◌≡◌, ℕ, zero, suc, ◌+◌, ◌<◌, ◌≤◌, drop, length, List, [], ◌∷◌, ◌++◌, Option, Some, None, refl, ap, ◌∙◌, inl, inr, arith, append_assoc}
 use Rattle.std.specs.List.{flat_map}
 use Rattle.serna_kinds.specs.Names.{NameParts, Space}
 use Rattle.tree_lines.specs.Texts.{meant}
-use Rattle.tree_lines.specs.Written.{Written}
+use Rattle.tree_lines.specs.Written.{Written, written_lines}
 use Rattle.tree_lines.specs.Written as written
 use Rattle.tree_lines.specs.Documents.{IsDocument}
 use Rattle.tree_lines.specs.Given.{Given, count_of, with_text, given_in, spaces_of, given_of, IsWhole}
@@ -26,14 +26,14 @@ abbrev text_in : Given → List ℕ
 text_in given.end = []
 text_in (given.text t rest) = t ++ text_in rest
 text_in (given.comment t rest) = text_in rest
-text_in (given.element name attributes content rest) = text_in content ++ text_in rest
+text_in (given.element name attributes line content rest) = text_in content ++ text_in rest
 
 -- under each number of neighbours stands the node that was numbered so
 abbrev Placed : (ℕ → Option Spot) → ℕ → Given → Type 0
 Placed look k given.end = Unit {0}
 Placed look k (given.text t rest) = ((up : Option ℕ) × (look k ≡ Some (record { up = up; body = source.Text t; kids = source.none }))) × Placed look (k + 1) rest
 Placed look k (given.comment t rest) = ((up : Option ℕ) × (look k ≡ Some (record { up = up; body = source.Comment t; kids = source.none }))) × Placed look (k + 1) rest
-Placed look k (given.element name attributes content rest) =
+Placed look k (given.element name attributes line content rest) =
     ((up : Option ℕ) × (look k ≡ Some (record { up = up; body = source.Element name attributes; kids = numbered (k + 1) content })))
     × Placed look (k + 1) content × Placed look (k + 1 + count_of content) rest
 
@@ -55,7 +55,7 @@ placed look up k (given.comment t rest) agrees = (
   (up, agrees k (omega arith) (omega arith) ∙ if_same k k _ _ refl),
   placed look up (k + 1) rest (λ n from to. agrees n (omega arith) (omega arith) ∙ if_other n k _ _ (λ e. absurd (omega arith))),
 )
-placed look up k (given.element name attributes content rest) agrees = (
+placed look up k (given.element name attributes line content rest) agrees = (
   (up, agrees k (omega arith) (omega arith) ∙ if_same k k _ _ refl),
   placed look (Some k) (k + 1) content (λ n from to.
       agrees n (omega arith) (omega arith) ∙ if_other n k _ _ (λ e. absurd (omega arith))
@@ -81,8 +81,8 @@ kids_text (given.comment t rest) s k zero p d = absurd (omega arith)
 kids_text (given.comment t rest) s k (suc left) p d =
     ap (λ x. x ++ flat_map (node_text (suc left) s) (numbers (numbered (k + 1) rest))) (node_text-suc left s k ∙ ap (spot_text (node_text left s)) p.0.1)
     ∙ kids_text rest s (k + 1) (suc left) p.1 d
-kids_text (given.element name attributes content rest) s k zero p d = absurd (omega arith)
-kids_text (given.element name attributes content rest) s k (suc left) p d =
+kids_text (given.element name attributes line content rest) s k zero p d = absurd (omega arith)
+kids_text (given.element name attributes line content rest) s k (suc left) p d =
     ap (λ x. x ++ flat_map (node_text (suc left) s) (numbers (numbered (k + 1 + count_of content) rest)))
     (node_text-suc left s k ∙ ap (spot_text (node_text left s)) p.0.1 ∙ kids_text content s (k + 1) left p.1 (omega arith))
     ∙ ap (λ x. text_in content ++ x) (kids_text rest s (k + 1 + count_of content) (suc left) p.2 (omega arith))
@@ -101,24 +101,27 @@ text_in-with_text [] g = refl
 text_in-with_text (c ∷ cs) given.end = refl
 text_in-with_text (c ∷ cs) (given.text t rest) = append_assoc (c ∷ cs) t (text_in rest)
 text_in-with_text (c ∷ cs) (given.comment t rest) = refl
-text_in-with_text (c ∷ cs) (given.element name attributes content rest) = refl
+text_in-with_text (c ∷ cs) (given.element name attributes line content rest) = refl
 
-text_in-given_in : (names : List NameParts) (spaces : List Space) (d : Written) → text_in (given_in names spaces d) ≡ written_text d
-text_in-given_in names spaces written.end = refl
-text_in-given_in names spaces (written.text t rest) =
-    text_in-with_text (meant t) (given_in names spaces rest) ∙ ap (λ x. meant t ++ x) (text_in-given_in names spaces rest)
-text_in-given_in names spaces (written.comment t rest) = text_in-given_in names spaces rest
-text_in-given_in names spaces (written.element name attributes content rest) =
-    ap (λ x. x ++ text_in (given_in names spaces rest)) (text_in-given_in names spaces content) ∙ ap (λ x. written_text content ++ x) (text_in-given_in names spaces rest)
+text_in-given_in : (names : List NameParts) (spaces : List Space) (lines : List ℕ) (d : Written) → text_in (given_in names spaces lines d) ≡ written_text d
+text_in-given_in names spaces lines written.end = refl
+text_in-given_in names spaces lines (written.text t rest) =
+    text_in-with_text (meant t) (given_in names spaces (drop 1 lines) rest) ∙ ap (λ x. meant t ++ x) (text_in-given_in names spaces (drop 1 lines) rest)
+text_in-given_in names spaces lines (written.comment t rest) = text_in-given_in names spaces (drop 1 lines) rest
+text_in-given_in names spaces lines (written.element name attributes content rest) =
+    let inner : List ℕ = drop (1 + length attributes) lines in
+    let behind : List ℕ = drop (1 + length (written_lines content)) inner in
+    ap (λ x. x ++ text_in (given_in names spaces behind rest)) (text_in-given_in names spaces inner content)
+    ∙ ap (λ x. written_text content ++ x) (text_in-given_in names spaces behind rest)
 
 -- the tree of a document is whole
 abbrev pub AreWhole : Type 0
-AreWhole = (names : List NameParts) (document : Written) → IsDocument document → IsWhole (given_of names document)
+AreWhole = (names : List NameParts) (lines : List ℕ) (document : Written) → IsDocument document → IsWhole (given_of names lines document)
 
 view_text-start : AreWhole → (d : Written) → IsDocument d → view_text (start None d) ≡ written_text d
 view_text-start whole d is =
-    let w = whole (names_of None d) d is in
-    view_text-begun (spaces_of d) (given_of (names_of None d) d) w.shallow ∙ text_in-given_in (names_of None d) (spaces_of d) d
+    let w = whole (names_of None d) [] d is in
+    view_text-begun (spaces_of d) (given_of (names_of None d) [] d) w.shallow ∙ text_in-given_in (names_of None d) (spaces_of d) [] d
 
 pub texts_of-start : AreWhole → (names : List NameParts) (d : Written) → IsDocument d → texts_of (batch names [] (start None d)) ≡ written_text d
 texts_of-start whole names d is = texts_of-batch names (start None d) ∙ view_text-start whole d is

@@ -1,5 +1,5 @@
 -- Each step keeps the editor sound.
-use Rattle.std.proofs.Common.{◌≡◌, ◌≢◌, ℕ, ◌+◌, ◌<◌, ◌≤◌, ◌⊎◌, inl, inr, Bool, true, false, List, [], ◌∷◌, ◌++◌, filter, filter_map, Option, Some, None, ◌&&◌, if◌then◌else◌, refl, sym, ap, ◌∙◌, subst, arith, bytes_eq}
+use Rattle.std.proofs.Common.{◌≡◌, ◌≢◌, ℕ, ◌+◌, ◌≤◌, ◌⊎◌, inl, inr, nat_lt, nat_le, Bool, true, false, List, [], ◌∷◌, ◌++◌, filter, filter_map, Option, Some, None, ◌&&◌, if◌then◌else◌, refl, sym, ap, ◌∙◌, subst, arith, bytes_eq}
 use Rattle.std.proofs.lemmas.Bool.{and_parts, cases_eq, ltb-false, leb-false}
 use Rattle.std.proofs.lemmas.Option.{none-some}
 use Rattle.std.specs.List.{AllByRecursion, cons_option}
@@ -28,7 +28,9 @@ use Rattle.plain_editor.specs.Commands.{Command, at_place, at_parts, read_number
 use Rattle.plain_editor.specs.Commands as command
 use Rattle.plain_editor.specs.Editor.{Editor, Reply, opened, stands_at, caret_of, put_first, put_at, changed, bytes_of, bytes_at, typed_at, typed, told, obeyed, step}
 use Rattle.plain_editor.specs.Sound.{IsCaretOf, IsLive, AreLive, IsInsertion, IsSound}
-use Rattle.plain_editor.proofs.Plain.{plain_meant}
+use Rattle.tree_lines.specs.Writable.{IsText}
+use Rattle.tree_lines.proofs.MeantTexts.{meant-text}
+use Rattle.plain_editor.proofs.Plain.{plain_meant, is_line-plain}
 use Rattle.plain_editor.proofs.Marks.{all_filter}
 use Rattle.plain_editor.proofs.Runs.{view_live}
 use Rattle.plain_editor.proofs.PlacesKept.{place_kept, behind_piece, behind_new}
@@ -140,30 +142,44 @@ spot_nodes names s n spot proper found =
     node_kids names None n 0 source.Root proper.top source.none spot (cases_eq n 0) proper.nodes (λ is. kids_nodes names proper.top (Some 0) n spot proper.nodes is) (λ is. absurd (none-some spot is))
     (ap (spot_in None n) (sym proper.rooted) ∙ found)
 
--- `type`
+-- `type`: a text that is not too long may be put in
+pub text_may : (editor : Editor) (text : List ℕ) (number : NodeName) (at : ℕ) → IsPlaceOf editor.source (Text number at) →
+    nat_lt 16384 (bytes_at editor.source number.0 + bytes_of text) ≡ false → MayApply (InsertText number at text) editor.source
+text_may editor text number at is short =
+    let bytes : bytes_at editor.source number.0 ≡ bytes_of is.0 = ap (λ (o : Option (List ℕ)). elim o [ None ↦ 0 | Some text ↦ bytes_of text ]) is.1 in
+    let within : bytes_at editor.source number.0 + bytes_of text ≤ 16384 = ltb-false 16384 (bytes_at editor.source number.0 + bytes_of text) short in
+    (is.0, is.1, is.2, omega (arith, bytes, within))
+
+abbrev pub new_text : Editor → List ℕ → NodeName → Primitive
+new_text editor text number = InsertChild number 0 (item.Text (named (editor.source.made + 1)) text ∷ [])
+
+pub into_may : (editor : Editor) (text : List ℕ) (number : NodeName) → IsPlaceOf editor.source (Into number) →
+    nat_lt 16384 (bytes_of text) ≡ false → nat_le 1000000 editor.source.made ≡ false → MayApply (new_text editor text number) editor.source
+into_may editor text number is short room =
+    ((is.0, is.1, is.2, omega arith), (refl, ltb-false 16384 (bytes_of text) short, refl), leb-false 1000000 editor.source.made room)
+
+pub into_keeps : (names : List NameParts) (editor : Editor) (text : List ℕ) (number : NodeName) → IsProper names editor.source → IsPlaceOf editor.source (Into number) →
+    text ≢ [] → nat_lt 16384 (bytes_of text) ≡ false → KeepsProper names (new_text editor text number) editor.source
+into_keeps names editor text number proper is some short = λ spot found.
+    let both : Some is.0 ≡ Some spot = sym is.1 ∙ found in
+    (some, ltb-false 16384 (bytes_of text) short, refl, subst BeginsNoText (ap kids_at both) is.3, spot_nodes names editor.source number.0 spot proper found)
+
 pub typed_text_sound : (names : List NameParts) (editor : Editor) (text : List ℕ) (number : NodeName) (at occurrence : ℕ) → IsSound names editor → IsPlaceOf editor.source (Text number at) →
     IsSound names (typed_at editor text (Text number at) occurrence).0
 typed_text_sound names editor text number at occurrence sound is =
     sound_if names _ _ _ (λ _. sound) (λ short. sound_if names _ _ _ (λ _. sound) (λ few.
-    let bytes : bytes_at editor.source number.0 ≡ bytes_of is.0 = ap (λ (o : Option (List ℕ)). elim o [ None ↦ 0 | Some text ↦ bytes_of text ]) is.1 in
-    let within : bytes_at editor.source number.0 + bytes_of text ≤ 16384 = ltb-false 16384 (bytes_at editor.source number.0 + bytes_of text) short in
-    let room : bytes_of is.0 + bytes_of text ≤ 16384 = omega (arith, bytes, within) in
-    changed_sound names editor (InsertText number at text) (Text number (at + bytes_of text)) occurrence sound (is.0, is.1, is.2, room) tt
-    (behind_piece editor.source number at text (is.0, is.1, is.2, room))))
+    let may = text_may editor text number at is short in
+    changed_sound names editor (InsertText number at text) (Text number (at + bytes_of text)) occurrence sound may tt
+    (behind_piece editor.source number at text may)))
 
 pub typed_into_sound : (names : List NameParts) (editor : Editor) (text : List ℕ) (number : NodeName) (occurrence : ℕ) → IsSound names editor → IsPlaceOf editor.source (Into number) → text ≢ [] →
     IsSound names (typed_at editor text (Into number) occurrence).0
 typed_into_sound names editor text number occurrence sound is some =
     sound_if names _ _ _ (λ _. sound) (λ short. sound_if names _ _ _ (λ _. sound) (λ room. sound_if names _ _ _ (λ _. sound) (λ few.
-    let within : bytes_of text ≤ 16384 = ltb-false 16384 (bytes_of text) short in
-    let made : editor.source.made < 1000000 = leb-false 1000000 editor.source.made room in
     let new : NodeName = named (editor.source.made + 1) in
     let place : HasPlace editor.source number.0 0 = (is.0, is.1, is.2, omega arith) in
-    let keeps : (spot : Spot) → spot_of editor.source number.0 ≡ Some spot → AreNodes names (source.node new.0 (source.Text text) source.none spot.kids) = λ spot found.
-    (let both : Some is.0 ≡ Some spot = sym is.1 ∙ found in
-    (some, within, refl, subst BeginsNoText (ap kids_at both) is.3, spot_nodes names editor.source number.0 spot sound.proper found)) in
-    changed_sound names editor (InsertChild number 0 (item.Text new text ∷ [])) (Text new (bytes_of text)) occurrence sound (place, (refl, within, refl), made) keeps
-    (behind_new names editor.source number new 0 text sound.proper place refl))))
+    changed_sound names editor (new_text editor text number) (Text new (bytes_of text)) occurrence sound (into_may editor text number is short room)
+    (into_keeps names editor text number sound.proper is some short) (behind_new names editor.source number new 0 text sound.proper place refl))))
 
 place_sound : (names : List NameParts) (editor : Editor) (text : List ℕ) (place : CaretPlace) (occurrence : ℕ) → IsSound names editor → IsPlaceOf editor.source place → text ≢ [] →
     IsSound names (typed_at editor text place occurrence).0
@@ -174,11 +190,11 @@ typed_sound : (names : List NameParts) (editor : Editor) (text : List ℕ) (care
 typed_sound names editor text None sound is some = sound
 typed_sound names editor text (Some caret) sound is some = place_sound names editor text caret.place caret.occurrence sound is some
 
--- what a line types is not empty
+-- what a line types is not empty, and has the characters that a document's texts may have
 abbrev pub IsSaid : Command → Type 0
 IsSaid command.Show = Unit {0}
 IsSaid (command.At page line column) = Unit {0}
-IsSaid (command.Typing text) = text ≢ []
+IsSaid (command.Typing text) = (text ≢ []) × IsText text
 IsSaid command.Where = Unit {0}
 IsSaid command.Tree = Unit {0}
 IsSaid command.NotBuilt = Unit {0}
@@ -204,7 +220,8 @@ said_typing : (text : List ℕ) → IsSaid (typing text)
 said_typing [] = tt
 said_typing (c ∷ cs) =
     said_if (is_plain (c ∷ cs) && has_escapes (c ∷ cs)) (command.Typing (meant (c ∷ cs))) command.NotBuilt
-    (λ is. plain_meant c cs (and_parts (is_plain (c ∷ cs)) (has_escapes (c ∷ cs)) is).0) tt
+    (λ is. let plain : is_plain (c ∷ cs) ≡ true = (and_parts (is_plain (c ∷ cs)) (has_escapes (c ∷ cs)) is).0 in
+    (plain_meant c cs plain, meant-text (c ∷ cs) (is_line-plain (c ∷ cs) plain))) tt
 
 said_behind_type : (o : Option (List ℕ)) → IsSaid (elim o [ Some text ↦ typing text | None ↦ command.NotBuilt ])
 said_behind_type None = tt
@@ -227,7 +244,7 @@ told_sound names editor (Some caret) sound = sound
 pub obeyed_sound : (rules : List TemplateRule) (names : List NameParts) (editor : Editor) (said_command : Command) → IsSaid said_command → IsSound names editor → IsSound names (obeyed rules editor said_command).0
 obeyed_sound rules names editor command.Show is sound = record { proper = sound.proper; caret = sound.caret; stops = view_live editor.names rules editor.source; insertions = tt }
 obeyed_sound rules names editor (command.At page line column) is sound = put_at_sound names editor page line column editor.stops sound sound.stops
-obeyed_sound rules names editor (command.Typing text) is sound = typed_sound names editor text editor.caret sound sound.caret is
+obeyed_sound rules names editor (command.Typing text) is sound = typed_sound names editor text editor.caret sound sound.caret is.0
 obeyed_sound rules names editor command.Where is sound = told_sound names editor editor.caret sound
 obeyed_sound rules names editor command.Tree is sound = sound
 obeyed_sound rules names editor command.NotBuilt is sound = sound

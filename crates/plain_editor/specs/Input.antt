@@ -1,6 +1,6 @@
 -- Which inputs are accepted, and what they say (this project's own): the line `!style NAME` and a stylesheet's lines, or neither; the line
 -- `!document`, the document's lines, the line `!script`, and the script, each line after it being a command.
-use Rattle.std.specs.Prelude.{◌≡◌, ℕ, ◌==◌, ◌≤◌, List, [], ◌∷◌, ◌++◌, IsTrue, length, Option, if◌then◌else◌}
+use Rattle.std.specs.Prelude.{◌≡◌, ℕ, ◌==◌, ◌≤◌, List, [], ◌∷◌, ◌++◌, IsTrue, length, Option, codes, if◌then◌else◌}
 use Rattle.std.specs.List.{onto_first, AllByRecursion}
 use Rattle.tree_lines.specs.Written.{Written, written_lines}
 use Rattle.tree_lines.specs.Documents.{IsDocument}
@@ -12,13 +12,12 @@ abbrev pub lines_of : List ℕ → List (List ℕ)
 lines_of [] = []
 lines_of (b ∷ bs) = if b == 10 then [] ∷ lines_of bs else onto_first b (lines_of bs)
 
--- `!document`
+-- the line before a document, and the one before a script
 abbrev pub document_head : List ℕ
-document_head = 33 ∷ 100 ∷ 111 ∷ 99 ∷ 117 ∷ 109 ∷ 101 ∷ 110 ∷ 116 ∷ []
+document_head = codes "!document"
 
--- `!script`
 abbrev pub script_head : List ℕ
-script_head = 33 ∷ 115 ∷ 99 ∷ 114 ∷ 105 ∷ 112 ∷ 116 ∷ []
+script_head = codes "!script"
 
 -- the input is this stylesheet, if it has one, this document in printable ASCII, and this script, and has at most 16,384 bytes
 pub record IsInput (input : List ℕ) (style : Option Sheet) (document : Written) (script : List (List ℕ)) : Type 0 where

@@ -3,16 +3,14 @@ use Rattle.std.specs.Prelude.{ℕ, List, [], ◌∷◌, ◌++◌, Option, Some, 
 use Rattle.tree_lines.specs.Written.{Written, Attribute, written_lines}
 use Rattle.tree_lines.specs.Written as written
 use Rattle.plain_editor.specs.Input.{document_head, script_head}
-use Rattle.plain_editor.specs.Sheets.{Sheet, sheet_lines, names_of, rules_for, start}
-use Rattle.plain_editor.specs.Editor.{opened, replies}
+use Rattle.plain_editor.specs.Sheets.{Sheet, sheet_lines}
 use Rattle.plain_editor.specs.Commands.{show_word}
 
--- `doc` and `Oak`
 abbrev pub doc : List ℕ
-doc = 100 ∷ 111 ∷ 99 ∷ []
+doc = codes "doc"
 
 abbrev pub oak : List ℕ
-oak = 79 ∷ 97 ∷ 107 ∷ []
+oak = codes "Oak"
 
 -- lines, each with its LF
 abbrev pub text_of_lines : List (List ℕ) → List ℕ
@@ -43,9 +41,9 @@ empty_doc = written.element doc [] written.end written.end
 abbrev pub oak_doc : Written
 oak_doc = written.element doc [] (written.text oak written.end) written.end
 
--- `plain` and a space; `plain Oak`
+-- `plain` and a space, a text, and LF
 abbrev pub plain : List ℕ → List ℕ
-plain text = 112 ∷ 108 ∷ 97 ∷ 105 ∷ 110 ∷ 32 ∷ (text ++ (10 ∷ []))
+plain text = codes "plain " ++ (text ++ (10 ∷ []))
 
 -- a script that types at the end of the text, and what it is answered; one that types twice into the empty element
 abbrev pub types_at_end : List (List ℕ)
@@ -133,7 +131,3 @@ abbrev pub block_answers : List ℕ
 block_answers =
     text_of_lines (codes "page 1" ∷ codes "line 1 0 0 x:Oak" ∷ codes "line 2 0 14400 x:" ∷ codes "ok" ∷ codes "ok" ∷ codes "refused fixed"
     ∷ codes "page 1" ∷ codes "line 1 0 0 x:Oak" ∷ codes "line 2 0 14400 x:Red" ∷ [])
-
--- what the editor of a stylesheet and a document answers to a script
-abbrev pub answered : Option Sheet → Written → List (List ℕ) → List ℕ
-answered style document script = replies (rules_for style document) (opened (names_of style document) (start style document)) script

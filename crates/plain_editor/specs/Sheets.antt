@@ -5,7 +5,7 @@ use Rattle.serna_kinds.specs.Names.{NameParts}
 use Rattle.tree_lines.specs.Written.{Written, written_lines}
 use Rattle.tree_lines.specs.Documents.{IsDocument}
 use Rattle.tree_lines.specs.Tokens.{with_names, names_with}
-use Rattle.tree_lines.specs.Given.{spaces_of, given_of}
+use Rattle.tree_lines.specs.Given.{Given, spaces_of, given_of}
 use Rattle.source_model.specs.Source.{Source}
 use Rattle.source_tree.specs.Begun.{begun}
 use Rattle.style_sheet.specs.declared.style.Rule.{Rule}
@@ -31,6 +31,10 @@ abbrev pub sheet_lines : Option Sheet → List (List ℕ)
 sheet_lines None = []
 sheet_lines (Some sheet) = sheet_head sheet.name ∷ written_lines sheet.document
 
+-- its tree, by a table of names. The numbers of its lines are left out, since no rule shows them.
+abbrev pub sheet_tree : List NameParts → Sheet → Given
+sheet_tree names sheet = given_of names [] sheet.document
+
 -- the table of the names of a stylesheet's document
 abbrev pub own_names : Sheet → List NameParts
 own_names sheet = names_with [] (written_lines sheet.document)
@@ -40,7 +44,7 @@ pub record IsSheet (sheet : Sheet) : Type 0 where
   pub named : IsTrue (is_sheet_name sheet.name)
   pub written : IsDocument sheet.document
   pub plain : AllByRecursion (λ line. IsTrue (is_plain line)) (written_lines sheet.document)
-  pub built : is_built (own_names sheet) (spaces_of sheet.document) (given_of (own_names sheet) sheet.document) ≡ true
+  pub built : is_built (own_names sheet) (spaces_of sheet.document) (sheet_tree (own_names sheet) sheet) ≡ true
 
 abbrev pub IsStyle : Option Sheet → Type 0
 IsStyle None = Unit {0}
@@ -50,7 +54,7 @@ IsStyle (Some sheet) = IsSheet sheet
 abbrev pub sheet_names : Option Sheet → List NameParts
 sheet_names None = []
 sheet_names (Some sheet) =
-    with_names (own_names sheet) (matched_names (spaces_of sheet.document) (given_of (own_names sheet) sheet.document))
+    with_names (own_names sheet) (matched_names (spaces_of sheet.document) (sheet_tree (own_names sheet) sheet))
 
 -- the table of all names: behind them those of the document's elements and attributes
 abbrev pub names_of : Option Sheet → Written → List NameParts
@@ -59,11 +63,11 @@ names_of style document = names_with (sheet_names style) (written_lines document
 -- the rules; without a stylesheet there are none, and the built-in ones alone hold
 abbrev pub rules_in : List NameParts → Option Sheet → List Rule
 rules_in names None = []
-rules_in names (Some sheet) = rules_of names (spaces_of sheet.document) (given_of names sheet.document)
+rules_in names (Some sheet) = rules_of names (spaces_of sheet.document) (sheet_tree names sheet)
 
 abbrev pub rules_for : Option Sheet → Written → List Rule
 rules_for style document = rules_in (names_of style document) style
 
--- the source that the editor starts with
+-- the source that the editor starts with, which has no numbers of lines
 abbrev pub start : Option Sheet → Written → Source
-start style document = begun (spaces_of document) (given_of (names_of style document) document)
+start style document = begun (spaces_of document) (given_of (names_of style document) [] document)

@@ -5,6 +5,7 @@ ghost use Rattle.tree_lines.specs.Given.{given_of};
 ghost use Rattle.tree_lines.specs.Documents.{IsDocument};
 ghost use Rattle.source_model.specs.PlainText.{view_text};
 ghost use Rattle.source_tree.specs.Begun.{begun};
+ghost use Rattle.source_tree.specs.Printing.{IsPrintable};
 ghost use Rattle.style_sheet.specs.declared.style.Rule.{Rule as TemplateRule};
 ghost use Rattle.template_run.specs.Batch.{batch};
 ghost use Rattle.plain_editor.specs.Input.{IsInput};
@@ -23,32 +24,34 @@ ghost use Rattle.source_model.specs.Cells.{named};
 ghost use Rattle.source_model.specs.Changes.{text_at};
 ghost use Rattle.source_tree.specs.declared.prim.CaretPlace.TheVariants as place;
 ghost use Rattle.plain_editor.specs.Texts.{written_text};
-ghost use Rattle.plain_editor.specs.Rows.{oak, empty_document, one_text, cut_off, text_outside, another_head, empty_doc, oak_doc, plain, types_at_end, typed_at_end, types_into, typed_into, asks, told_what_it_asks, full_doc, full_document, full_script, full_answers, block_sheet, two_doc, block_input, block_script, block_answers, answered};
+ghost use Rattle.plain_editor.specs.Answers.{answers};
+ghost use Rattle.plain_editor.specs.Rows.{oak, empty_document, one_text, cut_off, text_outside, another_head, empty_doc, oak_doc, plain, types_at_end, typed_at_end, types_into, typed_into, asks, told_what_it_asks, full_doc, full_document, full_script, full_answers, block_sheet, two_doc, block_input, block_script, block_answers};
 
 /// An input has one reading at most: one stylesheet or none, one document and one script.
 pub fn one_reading()
     ensures { (input : List ℕ) (a b : Option Sheet) (d e : Written) (s t : List (List ℕ)) → IsInput input a d s → IsInput input b e t → (a ≡ b) × (d ≡ e) × (s ≡ t) }
 {}
 
-/// Under which numbers a table keeps the names of a document does not show in the text that the built-in rules make of it.
+/// Under which numbers a table keeps the names of a document, and which numbers its lines have, does not show in the text that the
+/// built-in rules make of it.
 pub fn names_do_not_show()
-    ensures { (names others : List NameParts) (spaces : List Space) (document : Written) →
-        view_text (begun spaces (given_of names document)) ≡ view_text (begun spaces (given_of others document)) }
+    ensures { (names others : List NameParts) (lines others_lines : List ℕ) (spaces : List Space) (document : Written) →
+        view_text (begun spaces (given_of names lines document)) ≡ view_text (begun spaces (given_of others others_lines document)) }
 {}
 
 /// Worked examples of the definitions: four inputs with what is answered to them, scripts that type, and three that are no input.
 pub fn worked_examples()
     ensures empty { IsInput empty_document None empty_doc (show_word ∷ []) }
-    ensures empty_shown { answered None empty_doc (show_word ∷ []) ≡ plain [] }
+    ensures empty_shown { answers None empty_doc (show_word ∷ []) ≡ plain [] }
     ensures text { IsInput one_text None oak_doc (show_word ∷ []) }
-    ensures text_shown { answered None oak_doc (show_word ∷ []) ≡ plain oak }
-    ensures at_end { answered None oak_doc types_at_end ≡ typed_at_end }
-    ensures into { answered None empty_doc types_into ≡ typed_into }
-    ensures told { answered None empty_doc asks ≡ told_what_it_asks }
+    ensures text_shown { answers None oak_doc (show_word ∷ []) ≡ plain oak }
+    ensures at_end { answers None oak_doc types_at_end ≡ typed_at_end }
+    ensures into { answers None empty_doc types_into ≡ typed_into }
+    ensures told { answers None empty_doc asks ≡ told_what_it_asks }
     ensures full { IsInput full_document None full_doc full_script }
-    ensures full_answered { answered None full_doc full_script ≡ full_answers }
+    ensures full_answered { answers None full_doc full_script ≡ full_answers }
     ensures block { IsInput block_input (Some block_sheet) two_doc block_script }
-    ensures block_answered { answered (Some block_sheet) two_doc block_script ≡ block_answers }
+    ensures block_answered { answers (Some block_sheet) two_doc block_script ≡ block_answers }
     ensures cut { (a : Option Sheet) (d : Written) (s : List (List ℕ)) → IsInput cut_off a d s → ⊥ }
     ensures outside { (a : Option Sheet) (d : Written) (s : List (List ℕ)) → IsInput text_outside a d s → ⊥ }
     ensures head { (a : Option Sheet) (d : Written) (s : List (List ℕ)) → IsInput another_head a d s → ⊥ }
@@ -83,6 +86,15 @@ pub fn a_show_is_fresh()
 pub fn each_step_is_sound()
     ensures opened { (names : List NameParts) (source : Source) → IsProper names source → IsSound names (opened names source) }
     ensures step { (rules : List TemplateRule) (names : List NameParts) (editor : Editor) (line : List ℕ) → IsSound names editor → IsSound names (step rules editor line).0 }
+{}
+
+/// What `source` prints reads back, whatever was obeyed before: the source that an editor starts with can be printed so, and each step
+/// keeps it so. By `printing_reads_back` of `source_tree` the lines are then those of a document, and the source that it begins has
+/// the same document and the same declarations.
+pub fn what_is_printed_stays_readable()
+    ensures started { (style : Option Sheet) (document : Written) → IsDocument document → IsPrintable (names_of style document) (start style document) }
+    ensures step { (rules : List TemplateRule) (names : List NameParts) (editor : Editor) (line : List ℕ) → IsSound names editor → IsPrintable names editor.source →
+        IsPrintable names (step rules editor line).0.source }
 {}
 
 /// A keystroke changes the source at the caret's place alone. At a place in a text, an accepted `type` puts its text in there, and

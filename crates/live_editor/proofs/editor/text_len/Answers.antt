@@ -8,4 +8,4 @@ use Rattle.live_editor.proofs.editor.text_len.Goals as goal
 
 pub returns-in-Some-Text : goal.returns-in-Some-Text
 returns-in-Some-Text c = λ text is.
-    c.byte_len.ensures ∙ ap bytes_of (same_text c.args.source.now c.args.node text (chars c.in-Some-Text.text.now) is (ap (λ v. Some (content_of v)) (sym c.in-Some-Text.field-0-is) ∙ c.in-Some-Text.ensures))
+    c.byte_len.ensures ∙ ap bytes_of (same_text c.args.source.now.source c.args.node text (chars c.in-Some-Text.text.now) is (ap (λ v. Some (content_of v)) (sym c.in-Some-Text.field-0-is) ∙ c.in-Some-Text.ensures))

@@ -11,14 +11,14 @@ use Rattle.live_editor.proofs.view.view_of.Goals as goal
 
 pub push_pages-requires : goal.push_pages-requires
 push_pages-requires c =
-    let marks : List Mark = batch c.args.names.now c.args.style.now c.args.source.now in
-    let whole = c.in_ok-whole.ensures.value c.args.source.now (λ cell _. refl) in
-    subst ArePagesAtStart (sym (c.as_slice.ensures ∙ c.in_ok-laid.ensures.pages marks whole)) (pages_start c.args.names.now c.args.style.now c.args.source.now)
+    let marks : List Mark = batch c.args.names.now c.args.style.now c.args.source.now.source in
+    let whole = c.in_ok-whole.ensures.value c.args.source.now.source (λ cell _. refl) in
+    subst ArePagesAtStart (sym (c.as_slice.ensures ∙ c.in_ok-laid.ensures.pages marks whole)) (pages_start c.args.names.now c.args.style.now c.args.source.now.source)
 
 pub returns : goal.returns
 returns c =
-    let marks : List Mark = batch c.args.names.now c.args.style.now c.args.source.now in
-    let whole = c.in_ok-whole.ensures.value c.args.source.now (λ cell _. refl) in
+    let marks : List Mark = batch c.args.names.now c.args.style.now c.args.source.now.source in
+    let whole = c.in_ok-whole.ensures.value c.args.source.now.source (λ cell _. refl) in
     record {
       text = c.in_ok-text-2.ensures.ok ∙ c.as_text.ensures.bytes ∙ c.in_ok-text.ensures ∙ laid_said c.args.names.now marks _ _ (c.in_ok-laid.ensures.rooted marks whole) (c.in_ok-laid.ensures.pages marks whole);
       boundaries = c.in_ok-push_pages.ensures ∙ ap (λ bs. boundaries_of bs ++ flat_map page_boundaries c.as_slice.result.now) c.new-boundaries.ensures.items

@@ -12,7 +12,7 @@ pub returns-then-self-ge-MAX_REVISIONS-clause-refused : goal.returns-then-self-g
 returns-then-self-ge-MAX_REVISIONS-clause-refused c =
     let now : Editor = c.args.self.now in
     let sound : IsSomeSound now = subst IsSomeSound c.self.view_is c.self.invariant in
-    let same : c.self.inside.source ≡ now.source = ap (λ (e : Editor). e.source) c.self.view_is in
+    let same : c.self.inside.source.source ≡ now.source = ap (λ (e : Editor). e.source) c.self.view_is in
     let revision : c.self.inside.revision ≡ now.revision = ap (λ (e : Editor). e.revision) c.self.view_is in
     let bytes : length c.as_text-more.result.now ≡ bytes_of c.args.text = ap length c.as_text-more.ensures.bytes in
     let short = room_there now c.args.node c.args.at c.text_len.result (length c.as_text-more.result.now) c.saturating_sub-room.result c.args.text sound c.requires.place
@@ -23,7 +23,7 @@ pub overflow_add-at : goal.overflow_add-at
 overflow_add-at c =
     let now : Editor = c.args.self.now in
     let sound : IsSomeSound now = subst IsSomeSound c.self.view_is c.self.invariant in
-    let same : c.self.inside.source ≡ now.source = ap (λ (e : Editor). e.source) c.self.view_is in
+    let same : c.self.inside.source.source ≡ now.source = ap (λ (e : Editor). e.source) c.self.view_is in
     let bytes : length c.as_text-more.result.now ≡ bytes_of c.args.text = ap length c.as_text-more.ensures.bytes in
     let short = room_there now c.args.node c.args.at c.text_len.result (length c.as_text-more.result.now) c.saturating_sub-room.result c.args.text sound c.requires.place
     (λ t is. c.text_len.ensures t (ap (λ s. text_at s c.args.node.0) same ∙ is)) bytes c.saturating_sub-room.ensures (omega (arith, c.if-more-room.false)) in
@@ -34,7 +34,7 @@ pub change-requires-clause-may : goal.change-requires-clause-may
 change-requires-clause-may c =
     let now : Editor = c.args.self.now in
     let sound : IsSomeSound now = subst IsSomeSound c.self.view_is c.self.invariant in
-    let same : c.self.inside.source ≡ now.source = ap (λ (e : Editor). e.source) c.self.view_is in
+    let same : c.self.inside.source.source ≡ now.source = ap (λ (e : Editor). e.source) c.self.view_is in
     let bytes : length c.as_text-more.result.now ≡ bytes_of c.args.text = ap length c.as_text-more.ensures.bytes in
     let short = room_there now c.args.node c.args.at c.text_len.result (length c.as_text-more.result.now) c.saturating_sub-room.result c.args.text sound c.requires.place
     (λ t is. c.text_len.ensures t (ap (λ s. text_at s c.args.node.0) same ∙ is)) bytes c.saturating_sub-room.ensures (omega (arith, c.if-more-room.false)) in
@@ -44,7 +44,7 @@ pub change-requires-clause-sound : goal.change-requires-clause-sound
 change-requires-clause-sound c =
     let now : Editor = c.args.self.now in
     let sound : IsSomeSound now = subst IsSomeSound c.self.view_is c.self.invariant in
-    let same : c.self.inside.source ≡ now.source = ap (λ (e : Editor). e.source) c.self.view_is in
+    let same : c.self.inside.source.source ≡ now.source = ap (λ (e : Editor). e.source) c.self.view_is in
     let revision : c.self.inside.revision ≡ now.revision = ap (λ (e : Editor). e.revision) c.self.view_is in
     let bytes : length c.as_text-more.result.now ≡ bytes_of c.args.text = ap length c.as_text-more.ensures.bytes in
     let short = room_there now c.args.node c.args.at c.text_len.result (length c.as_text-more.result.now) c.saturating_sub-room.result c.args.text sound c.requires.place
@@ -56,7 +56,7 @@ pub returns-clause-ok : goal.returns-clause-ok
 returns-clause-ok c =
     let now : Editor = c.args.self.now in
     let sound : IsSomeSound now = subst IsSomeSound c.self.view_is c.self.invariant in
-    let same : c.self.inside.source ≡ now.source = ap (λ (e : Editor). e.source) c.self.view_is in
+    let same : c.self.inside.source.source ≡ now.source = ap (λ (e : Editor). e.source) c.self.view_is in
     let revision : c.self.inside.revision ≡ now.revision = ap (λ (e : Editor). e.revision) c.self.view_is in
     let bytes : length c.as_text-more.result.now ≡ bytes_of c.args.text = ap length c.as_text-more.ensures.bytes in
     let short = room_there now c.args.node c.args.at c.text_len.result (length c.as_text-more.result.now) c.saturating_sub-room.result c.args.text sound c.requires.place
