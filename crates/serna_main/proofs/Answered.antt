@@ -1,6 +1,6 @@
 -- How an input is answered, from how its script was run and how the run was closed.
-use Rattle.std.proofs.Common.{◌≡◌, ℕ, ◌≤◌, ◌<◌, List, [], ◌++◌, Option, Some, None, IfSome, inl, inr, length, refl, sym, ap, ◌∙◌, subst, arith, length-append}
-use Rattle.std.proofs.lemmas.Bool.{cases_lt}
+use Rattle.std.proofs.Common.{◌≡◌, ℕ, ◌≤◌, ◌<◌, Bool, false, IsTrue, List, [], ◌++◌, Option, Some, None, IfSome, inl, inr, length, refl, sym, ap, ◌∙◌, subst, arith, length-append}
+use Rattle.std.proofs.lemmas.Bool.{cases_lt, false≢true}
 use Rattle.std.proofs.lemmas.List.{append-nil}
 use Rattle.tree_lines.specs.Written.{Written}
 use Rattle.serna_outside.specs.Outside.{Appends, Consumes, IsAtEnd, Rose}
@@ -10,7 +10,9 @@ use Rattle.plain_editor.proofs.Readings.{AreToldByLines, one_reading}
 use Rattle.serna_main.specs.declared.status.Status.{Status}
 use Rattle.serna_main.specs.declared.status.Status.TheVariants as status
 use Rattle.page_print.specs.Outside.{AppendsFront}
-use Rattle.serna_main.specs.Out.{refusal, answers, IsRefused, IsReplied, IsAnswered, IsClosed}
+use Rattle.plain_editor.specs.Answers.{answers}
+use Rattle.serna_main.specs.Out.{refusal, IsRefused, IsReplied}
+use Rattle.serna_main.specs.Endings.{IsAnswered, IsClosed}
 use Rattle.page_print.proofs.Bytes.{front_all}
 
 -- equal readings are answered alike
@@ -40,70 +42,79 @@ front_refused input h h₁ is f bytes status.NoMemory out = absurd out
 
 -- a script that was answered whole, and closed
 pub answered_ok : AreToldByLines → (input : List ℕ) (a : Option Sheet) (d : Written) (s : List (List ℕ)) (h h₁ : Option (List ℕ)) (f f₁ : ℕ) (finished : Type 0) (ended : Status) → IsInput input a d s →
-    Appends h h₁ (answers a d s) → IsClosed status.Ok ended f f₁ finished → IsAnswered input ended h h₁ f f₁ finished
-answered_ok told input a d s h h₁ f f₁ finished status.Ok is written closed = record {
+    Appends h h₁ (answers a d s) → finished → IsClosed status.Ok ended f f₁ → IsAnswered input ended h h₁ f f₁ finished
+answered_ok told input a d s h h₁ f f₁ finished status.Ok is written done closed = record {
   out = λ w. (answers a d s, (a, d, s, is, refl), written);
   front = front_accepted told input a d s h h₁ is (front_all h h₁ (answers a d s) written);
-  closed = λ e. closed.0;
-  kept = λ e. closed.1;
+  closed = λ e. done;
+  kept = λ e. closed;
   write_fault = λ e. cc;
+  spoiled = λ e. cc;
   no_read_fault = λ e. cc;
   no_words = λ e. cc;
 }
-answered_ok told input a d s h h₁ f f₁ finished status.WriteFault is written closed = record {
+answered_ok told input a d s h h₁ f f₁ finished status.WriteFault is written done closed = record {
   out = λ w. absurd w;
   front = front_accepted told input a d s h h₁ is (front_all h h₁ (answers a d s) written);
-  closed = λ e. cc;
+  closed = λ e. done;
   kept = λ e. cc;
   write_fault = λ e. closed;
+  spoiled = λ e f. (answers a d s, (a, d, s, is, refl), written);
   no_read_fault = λ e. cc;
   no_words = λ e. cc;
 }
-answered_ok told input a d s h h₁ f f₁ finished status.BadWords is written closed = absurd closed
-answered_ok told input a d s h h₁ f f₁ finished status.InputRefused is written closed = absurd closed
-answered_ok told input a d s h h₁ f f₁ finished status.ReadFault is written closed = absurd closed
-answered_ok told input a d s h h₁ f f₁ finished status.NoMemory is written closed = absurd closed
+answered_ok told input a d s h h₁ f f₁ finished status.BadWords is written done closed = absurd closed
+answered_ok told input a d s h h₁ f f₁ finished status.InputRefused is written done closed = absurd closed
+answered_ok told input a d s h h₁ f f₁ finished status.ReadFault is written done closed = absurd closed
+answered_ok told input a d s h h₁ f f₁ finished status.NoMemory is written done closed = absurd closed
 
 -- a run that want of memory ended
 pub answered_no_memory : (input : List ℕ) (h h₁ : Option (List ℕ)) (f f₁ : ℕ) (finished : Type 0) (ended : Status) →
-    ((bytes : List ℕ) (other : Status) → IsReplied input bytes other → AppendsFront h h₁ bytes) → ended ≡ status.NoMemory → IsAnswered input ended h h₁ f f₁ finished
-answered_no_memory input h h₁ f f₁ finished ended front is =
+    ((bytes : List ℕ) (other : Status) → IsReplied input bytes other → AppendsFront h h₁ bytes) → finished → ended ≡ status.NoMemory → IsAnswered input ended h h₁ f f₁ finished
+answered_no_memory input h h₁ f f₁ finished ended front done is =
     subst (λ e. IsAnswered input e h h₁ f f₁ finished) (sym is) (record {
       out = λ w. absurd w;
       front = front;
-      closed = λ e. cc;
+      closed = λ e. done;
       kept = λ e. cc;
       write_fault = λ e. cc;
+      spoiled = λ e. cc;
       no_read_fault = λ e. cc;
       no_words = λ e. cc;
     })
 
--- a run that a failed write ended
+-- a run that a failed write ended, after which finish is not called
 pub answered_write_fault : (input : List ℕ) (h h₁ : Option (List ℕ)) (f f₁ : ℕ) (finished : Type 0) →
-    ((bytes : List ℕ) (other : Status) → IsReplied input bytes other → AppendsFront h h₁ bytes) → Rose f f₁ → IsAnswered input status.WriteFault h h₁ f f₁ finished
-answered_write_fault input h h₁ f f₁ finished front rose = record {
+    ((bytes : List ℕ) (other : Status) → IsReplied input bytes other → AppendsFront h h₁ bytes) → Rose f f₁ → (finished → ⊥) → IsAnswered input status.WriteFault h h₁ f f₁ finished
+answered_write_fault input h h₁ f f₁ finished front rose unfinished = record {
   out = λ w. absurd w;
   front = front;
-  closed = λ e. cc;
+  closed = λ e. absurd (e refl);
   kept = λ e. cc;
   write_fault = λ e. rose;
+  spoiled = λ e f. absurd (unfinished f);
   no_read_fault = λ e. cc;
   no_words = λ e. cc;
 }
 
 -- an input that was refused
-pub answered_refused : (input : List ℕ) (h h₁ : Option (List ℕ)) (f f₁ : ℕ) (finished : Type 0) (ended : Status) → IsRefused input → Appends h h₁ refusal → ended ≡ status.InputRefused →
+pub answered_refused : (input : List ℕ) (h h₁ : Option (List ℕ)) (f f₁ : ℕ) (finished : Type 0) (ended : Status) → IsRefused input → Appends h h₁ refusal → finished → ended ≡ status.InputRefused →
     IsAnswered input ended h h₁ f f₁ finished
-answered_refused input h h₁ f f₁ finished ended refused written is =
+answered_refused input h h₁ f f₁ finished ended refused written done is =
     subst (λ e. IsAnswered input e h h₁ f f₁ finished) (sym is) (record {
       out = λ w. (refusal, (refused, refl), written);
       front = front_refused input h h₁ refused (front_all h h₁ refusal written);
-      closed = λ e. cc;
+      closed = λ e. done;
       kept = λ e. cc;
       write_fault = λ e. cc;
+      spoiled = λ e. cc;
       no_read_fault = λ e. cc;
       no_words = λ e. cc;
     })
+
+-- what is false is not true
+pub not_finished : (finished : Bool) → finished ≡ false → IsTrue finished → ⊥
+not_finished finished is true_too = false≢true (sym is ∙ true_too)
 
 -- what holds of each value holds of the value that is there
 pub if_some_all : {A : Type 0} (o : Option A) (P : A → Type 0) → ((x : A) → P x) → IfSome o P

@@ -5,3 +5,4 @@ pub mod Cuts
 pub mod Openings
 pub mod Answered
 pub mod Words
+pub mod Lineless

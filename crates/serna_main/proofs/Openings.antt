@@ -1,5 +1,5 @@
 -- A stylesheet and a document as they are read, and both together.
-use Rattle.std.proofs.Common.{◌≡◌, ℕ, ◌+◌, ◌==◌, ◌&&◌, not, Bool, length, List, [], ◌∷◌, ◌++◌, map, take, drop, IsTrue, Some, None, true, refl, sym, ap, ◌∙◌, append_assoc}
+use Rattle.std.proofs.Common.{◌≡◌, ℕ, ◌+◌, ◌==◌, ◌&&◌, not, Bool, length, List, [], ◌∷◌, ◌++◌, take, drop, IsTrue, Some, None, true, refl, sym, ap, ◌∙◌, append_assoc}
 use Rattle.std.proofs.lemmas.Bool.{and_parts, true≢false}
 use Rattle.std.specs.List.{position, list_any}
 use Rattle.serna_kinds.specs.Names.{NameParts, Grows}
@@ -10,11 +10,12 @@ use Rattle.tree_lines.specs.declared.tree.TreeItem.TheVariants as item
 use Rattle.tree_lines.specs.Written.{Written, written_lines}
 use Rattle.tree_lines.specs.Given.{Given, items_of, spaces_of, given_of}
 use Rattle.tree_lines.specs.Given as given
-use Rattle.tree_lines.specs.Tokens.{without_line, names_with, with_names, AreNamed}
+use Rattle.tree_lines.specs.Tokens.{names_with, with_names, AreNamed}
 use Rattle.tree_lines.specs.Whole.{ReadTree}
 use Rattle.source_model.specs.Source.{Source}
 use Rattle.source_model.specs.Proper.{IsProper}
 use Rattle.source_tree.specs.Begun.{begun}
+use Rattle.source_tree.specs.Seen.{SeenTree}
 use Rattle.style_sheet.specs.declared.style.Rule.{Rule}
 use Rattle.style_sheet.specs.declared.reading.Module.{Module}
 use Rattle.style_sheet.specs.Modules.{AreBuilt, AreRules, HasMatched}
@@ -25,6 +26,7 @@ use Rattle.plain_editor.specs.Plain.{is_plain}
 use Rattle.plain_editor.specs.Input.{document_head}
 use Rattle.serna_main.specs.Sections.{IsRead, IsNoDocument, IsStyled, IsNoStyle, IsNoStyleHead, Begins, IsOpening, IsNoOpening}
 use Rattle.serna_main.proofs.Replies.{bytes_of}
+use Rattle.serna_main.proofs.Lineless.{built_lineless, rules_lineless, matched_lineless, begun_lineless}
 use Rattle.serna_main.proofs.Cuts.{IsCut, is_line, one_cut, cut_at, stands_nowhere, sheet_other}
 
 -- a tree is told by its items
@@ -32,7 +34,7 @@ same_items : (a b : Given) (r s : List TreeItem) → items_of a ++ (item.Finish 
 same_items given.end given.end r s e = (refl, cc)
 same_items given.end (given.text t rest) r s e = cc
 same_items given.end (given.comment t rest) r s e = cc
-same_items given.end (given.element n pairs content rest) r s e = cc
+same_items given.end (given.element n pairs l content rest) r s e = cc
 same_items (given.text t rest) given.end r s e = cc
 same_items (given.text t rest) (given.text u more) r s e =
     let first : t ≡ u = cc in
@@ -40,7 +42,7 @@ same_items (given.text t rest) (given.text u more) r s e =
     let same = same_items rest more r s tail in
     (ap (λ x. given.text x rest) first ∙ ap (given.text u) same.0, same.1)
 same_items (given.text t rest) (given.comment u more) r s e = cc
-same_items (given.text t rest) (given.element n pairs content more) r s e = cc
+same_items (given.text t rest) (given.element n pairs l content more) r s e = cc
 same_items (given.comment t rest) given.end r s e = cc
 same_items (given.comment t rest) (given.text u more) r s e = cc
 same_items (given.comment t rest) (given.comment u more) r s e =
@@ -48,18 +50,19 @@ same_items (given.comment t rest) (given.comment u more) r s e =
     let tail : items_of rest ++ (item.Finish ∷ r) ≡ items_of more ++ (item.Finish ∷ s) = cc in
     let same = same_items rest more r s tail in
     (ap (λ x. given.comment x rest) first ∙ ap (given.comment u) same.0, same.1)
-same_items (given.comment t rest) (given.element n pairs content more) r s e = cc
-same_items (given.element n pairs content rest) given.end r s e = cc
-same_items (given.element n pairs content rest) (given.text u more) r s e = cc
-same_items (given.element n pairs content rest) (given.comment u more) r s e = cc
-same_items (given.element n pairs content rest) (given.element m others inner more) r s e =
+same_items (given.comment t rest) (given.element n pairs l content more) r s e = cc
+same_items (given.element n pairs l content rest) given.end r s e = cc
+same_items (given.element n pairs l content rest) (given.text u more) r s e = cc
+same_items (given.element n pairs l content rest) (given.comment u more) r s e = cc
+same_items (given.element n pairs l content rest) (given.element m others k inner more) r s e =
     let name : n ≡ m = cc in
     let attributes : pairs ≡ others = cc in
+    let line : l ≡ k = cc in
     let tail : (items_of content ++ (item.Finish ∷ items_of rest)) ++ (item.Finish ∷ r) ≡ (items_of inner ++ (item.Finish ∷ items_of more)) ++ (item.Finish ∷ s) = cc in
     let within = same_items content inner (items_of rest ++ (item.Finish ∷ r)) (items_of more ++ (item.Finish ∷ s))
     (sym (append_assoc (items_of content) (item.Finish ∷ items_of rest) (item.Finish ∷ r)) ∙ tail ∙ append_assoc (items_of inner) (item.Finish ∷ items_of more) (item.Finish ∷ s)) in
     let behind = same_items rest more r s within.1 in
-    (ap (λ x. given.element x pairs content rest) name ∙ ap (λ x. given.element m x content rest) attributes ∙ ap (λ x. given.element m others x rest) within.0 ∙ ap (given.element m others inner) behind.0, behind.1)
+    (λ i. given.element (name i) (attributes i) (line i) (within.0 i) (behind.0 i), behind.1)
 
 pub one_tree : (a b : Given) → items_of a ≡ items_of b → a ≡ b
 one_tree a b e = (same_items a b [] [] (ap (λ items. items ++ (item.Finish ∷ [])) e)).0
@@ -94,9 +97,11 @@ not_built name lines old names m empty read other (Some sheet) styled e =
     let rest : lines ≡ written_lines sheet.document = cc in
     let own : own_names sheet ≡ names = ap (λ ls. names_with [] ls) (sym rest ∙ read.spelled) ∙ ap (λ o. names_with o (written_lines read.document)) (sym empty) ∙ sym read.table in
     other (λ tree is.
-    let same : tree ≡ given_of names sheet.document = one_tree tree (given_of names sheet.document) (sym is ∙ read.items names (Grows-refl names) sheet.document styled.written rest) in
-    ap (is_built names m.tree.spaces) same ∙ ap (λ s. is_built names s (given_of names sheet.document)) (read.spaces sheet.document rest)
-    ∙ ap (λ n. is_built n (spaces_of sheet.document) (given_of n sheet.document)) (sym own) ∙ styled.built)
+    let same : tree ≡ given_of names read.numbers sheet.document =
+    one_tree tree (given_of names read.numbers sheet.document) (sym is ∙ read.items names (Grows-refl names) sheet.document styled.written rest) in
+    ap (is_built names m.tree.spaces) same ∙ built_lineless names m.tree.spaces read.numbers sheet.document
+    ∙ ap (λ s. is_built names s (given_of names [] sheet.document)) (read.spaces sheet.document rest)
+    ∙ ap (λ n. is_built n (spaces_of sheet.document) (given_of n [] sheet.document)) (sym own) ∙ styled.built)
 
 -- a document that was compiled is a stylesheet
 pub styled_by : (name : List ℕ) (lines : List (List ℕ)) (old names new : List NameParts) (rules : List Rule) (m : Module) → IsTrue (is_sheet_name name) → old ≡ [] → IsRead lines old names m.tree → AreBuilt names (m ∷ []) →
@@ -106,23 +111,26 @@ styled_by name lines old names new rules m good empty read built said matched gr
     let sheet : Sheet = record { name = name; document = d } in
     let own : names ≡ own_names sheet = read.table ∙ ap (λ o. names_with o (written_lines d)) empty in
     let spaces : m.tree.spaces ≡ spaces_of d = read.spaces d read.spelled in
-    let items : (later : List NameParts) → Grows names later → map without_line m.tree.items ≡ items_of (given_of later d) = λ later g. read.items later g d read.built read.spelled in
+    let items : (later : List NameParts) → Grows names later → m.tree.items ≡ items_of (given_of later read.numbers d) = λ later g. read.items later g d read.built read.spelled in
     record {
       style = Some sheet;
       styled = record {
         named = good;
         written = read.built;
         plain = read.plain;
-        built = ap (λ n. is_built n (spaces_of d) (given_of n d)) (sym own) ∙ ap (λ s. is_built names s (given_of names d)) (sym spaces) ∙ built (given_of names d) (items names (Grows-refl names));
+        built = ap (λ n. is_built n (spaces_of d) (given_of n [] d)) (sym own) ∙ ap (λ s. is_built names s (given_of names [] d)) (sym spaces)
+            ∙ sym (built_lineless names m.tree.spaces read.numbers d) ∙ built (given_of names read.numbers d) (items names (Grows-refl names));
       };
       spelled = ap (λ ls. sheet_head name ∷ ls) read.spelled;
-      table = matched (given_of names d) (items names (Grows-refl names)) ∙ ap (λ s. with_names names (matched_names s (given_of names d))) spaces ∙ ap (λ n. with_names n (matched_names (spaces_of d) (given_of n d))) own;
-      read = λ later g. said later g (given_of later d) (items later (Grows-trans names new later grown g)) ∙ ap (λ s. rules_of later s (given_of later d)) spaces;
+      table = matched (given_of names read.numbers d) (items names (Grows-refl names)) ∙ ap (λ s. with_names names (matched_names s (given_of names read.numbers d))) spaces
+          ∙ ap (with_names names) (matched_lineless names (spaces_of d) read.numbers d) ∙ ap (λ n. with_names n (matched_names (spaces_of d) (given_of n [] d))) own;
+      read = λ later g. said later g (given_of later read.numbers d) (items later (Grows-trans names new later grown g)) ∙ ap (λ s. rules_of later s (given_of later read.numbers d)) spaces
+          ∙ rules_lineless later (spaces_of d) read.numbers d;
     }
 
 -- the source that a document's tree begins
 pub begins_by : (lines : List (List ℕ)) (old new : List NameParts) (tree : ReadTree) (source : Source) → IsRead lines old new tree →
-    ((g : Given) → map without_line tree.items ≡ items_of g → source ≡ begun tree.spaces g) → ((names : List NameParts) → AreNamed names tree.items → IsProper names source) → Begins lines old new source
+    ((g : Given) → tree.items ≡ items_of g → source ≡ begun tree.spaces g) → ((names : List NameParts) → AreNamed names tree.items → IsProper names source) → Begins lines old new source
 begins_by lines old new tree source read is proper = record {
   document = read.document;
   built = read.built;
@@ -130,15 +138,16 @@ begins_by lines old new tree source read is proper = record {
   spelled = read.spelled;
   table = read.table;
   grows = read.grows;
-  begins = is (given_of new read.document) (read.items new (Grows-refl new) read.document read.built read.spelled)
-      ∙ ap (λ s. begun s (given_of new read.document)) (read.spaces read.document read.spelled);
+  begins = is (given_of new read.numbers read.document) (read.items new (Grows-refl new) read.document read.built read.spelled)
+      ∙ ap (λ s. begun s (given_of new read.numbers read.document)) (read.spaces read.document read.spelled)
+      ∙ begun_lineless new (spaces_of read.document) read.numbers read.document;
   proper = proper new (read.named new (Grows-refl new));
 }
 
 -- a stylesheet or none before the document's head, and a document behind it
-pub is_opening : (lines before behind : List (List ℕ)) (names new : List NameParts) (rules : List Rule) (source : Source) → IsCut document_head lines before behind → IsStyled before names rules → Begins behind names new source →
-    IsOpening lines (record { names = new; style = rules; source = source })
-is_opening lines before behind names new rules source cut s b =
+pub is_opening : (lines before behind : List (List ℕ)) (names new : List NameParts) (rules : List Rule) (tree : SeenTree) → IsCut document_head lines before behind → IsStyled before names rules → Begins behind names new tree.source →
+    IsOpening lines (record { names = new; style = rules; source = tree })
+is_opening lines before behind names new rules tree cut s b =
     let table : new ≡ names_of s.style b.document = b.table ∙ ap (λ n. names_with n (written_lines b.document)) s.table in
     record {
       style = s.style;
@@ -149,7 +158,7 @@ is_opening lines before behind names new rules source cut s b =
       spelled = cut.whole ∙ ap (λ ls. ls ++ (document_head ∷ behind)) s.spelled ∙ ap (λ ls. sheet_lines s.style ++ (document_head ∷ ls)) b.spelled;
       table = table;
       rules = s.read new b.grows ∙ ap (λ n. rules_in n s.style) table;
-      begins = b.begins ∙ ap (λ n. begun (spaces_of b.document) (given_of n b.document)) table;
+      begins = b.begins ∙ ap (λ n. begun (spaces_of b.document) (given_of n [] b.document)) table;
       proper = b.proper;
     }
 

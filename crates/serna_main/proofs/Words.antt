@@ -4,24 +4,25 @@ use Rattle.serna_outside.specs.Outside.{Appends, Rose}
 use Rattle.serna_main.specs.declared.status.Status.{Status}
 use Rattle.serna_main.specs.declared.status.Status.TheVariants as status
 use Rattle.page_print.specs.Outside.{AppendsFront}
-use Rattle.serna_main.specs.Out.{IsReplied, IsOut, IsWhole, IsEnded, IsAccepted, words_refusal}
+use Rattle.serna_main.specs.Out.{IsReplied, IsOut, IsEnded, IsAccepted, words_refusal}
+use Rattle.serna_main.specs.Endings.{IsWhole}
 
 -- with no words, what is out is what is replied
 pub out_replied : {A : Type 0} (words : List A) (input bytes : List ℕ) (ended : Status) → words ≡ [] → IsReplied input bytes ended → IsOut words input bytes ended
 out_replied words input bytes status.Ok empty replied = (empty, replied)
 out_replied words input bytes status.BadWords empty replied = absurd replied
 out_replied words input bytes status.InputRefused empty replied = (empty, replied)
-out_replied words input bytes status.ReadFault empty replied = (empty, replied)
-out_replied words input bytes status.WriteFault empty replied = (empty, replied)
-out_replied words input bytes status.NoMemory empty replied = (empty, replied)
+out_replied words input bytes status.ReadFault empty replied = replied
+out_replied words input bytes status.WriteFault empty replied = replied
+out_replied words input bytes status.NoMemory empty replied = replied
 
 pub replied_out : {A : Type 0} (words : List A) (input bytes : List ℕ) (ended : Status) → words ≡ [] → IsOut words input bytes ended → IsReplied input bytes ended
 replied_out words input bytes status.Ok empty out = out.1
 replied_out words input bytes status.BadWords empty out = absurd (out.0 empty)
 replied_out words input bytes status.InputRefused empty out = out.1
-replied_out words input bytes status.ReadFault empty out = out.1
-replied_out words input bytes status.WriteFault empty out = out.1
-replied_out words input bytes status.NoMemory empty out = out.1
+replied_out words input bytes status.ReadFault empty out = out
+replied_out words input bytes status.WriteFault empty out = out
+replied_out words input bytes status.NoMemory empty out = out
 
 -- a run that no refused words ended was whole
 pub whole_of_ended : (ended : Status) → (ended ≡ status.BadWords → ⊥) → IsEnded ended → IsWhole ended
@@ -54,9 +55,9 @@ pub front_words : {A : Type 0} (words : List A) (input : List ℕ) (h h₁ : Opt
 front_words words input h h₁ some front bytes status.Ok out = absurd (some out.0)
 front_words words input h h₁ some front bytes status.BadWords out = subst (AppendsFront h h₁) (sym out.1) front
 front_words words input h h₁ some front bytes status.InputRefused out = absurd (some out.0)
-front_words words input h h₁ some front bytes status.ReadFault out = absurd (some out.0)
-front_words words input h h₁ some front bytes status.WriteFault out = absurd (some out.0)
-front_words words input h h₁ some front bytes status.NoMemory out = absurd (some out.0)
+front_words words input h h₁ some front bytes status.ReadFault out = absurd out
+front_words words input h h₁ some front bytes status.WriteFault out = absurd out
+front_words words input h h₁ some front bytes status.NoMemory out = absurd out
 
 -- an accepted input that no fault ended was answered with Ok, or memory ran out
 complete_at : (input : List ℕ) (ended : Status) (h h₁ : Option (List ℕ)) (f f₁ k k₁ : ℕ) → (IsWhole ended → (bytes : List ℕ) × IsReplied input bytes ended × Appends h h₁ bytes) →

@@ -1,11 +1,11 @@
 -- What the sections of an input say: those of a stylesheet, of a document, and both together.
-use Rattle.std.specs.Prelude.{◌≡◌, ℕ, List, ◌∷◌, ◌++◌, map, drop, length, ◌≤◌, IsTrue, Option}
+use Rattle.std.specs.Prelude.{◌≡◌, ℕ, List, [], ◌∷◌, ◌++◌, map, drop, length, ◌≤◌, IsTrue, Option}
 use Rattle.std.specs.List.{AllByRecursion}
 use Rattle.serna_kinds.specs.Names.{NameParts, Grows}
 use Rattle.tree_lines.specs.Written.{Written, written_lines}
 use Rattle.tree_lines.specs.Documents.{IsDocument}
 use Rattle.tree_lines.specs.Given.{items_of, spaces_of, given_of}
-use Rattle.tree_lines.specs.Tokens.{without_line, names_with, AreNamed}
+use Rattle.tree_lines.specs.Tokens.{names_with, AreNamed}
 use Rattle.tree_lines.specs.Whole.{ReadTree}
 use Rattle.tree_lines.specs.declared.tree.Line.{Line}
 use Rattle.source_model.specs.Source.{Source}
@@ -22,7 +22,7 @@ use Rattle.serna_main.specs.declared.sections.Sections.{Sections}
 abbrev pub ArePlain : List (List ℕ) → Type 0
 ArePlain lines = AllByRecursion (λ line. IsTrue (is_plain line)) lines
 
--- the lines are a document in printable ASCII with whose names the table grew, and this is its tree
+-- the lines are a document in printable ASCII with whose names the table grew, and this is its tree, with these numbers of lines
 pub record IsRead (lines : List (List ℕ)) (old new : List NameParts) (tree : ReadTree) : Type 0 where
   pub document : Written
   pub built : IsDocument document
@@ -30,7 +30,8 @@ pub record IsRead (lines : List (List ℕ)) (old new : List NameParts) (tree : R
   pub spelled : lines ≡ written_lines document
   pub table : new ≡ names_with old (written_lines document)
   pub grows : Grows old new
-  pub items : (later : List NameParts) → Grows new later → (other : Written) → IsDocument other → lines ≡ written_lines other → map without_line tree.items ≡ items_of (given_of later other)
+  pub numbers : List ℕ
+  pub items : (later : List NameParts) → Grows new later → (other : Written) → IsDocument other → lines ≡ written_lines other → tree.items ≡ items_of (given_of later numbers other)
   pub spaces : (other : Written) → lines ≡ written_lines other → tree.spaces ≡ spaces_of other
   pub named : (later : List NameParts) → Grows new later → AreNamed later tree.items
 
@@ -62,7 +63,7 @@ pub record Begins (lines : List (List ℕ)) (old new : List NameParts) (source :
   pub spelled : lines ≡ written_lines document
   pub table : new ≡ names_with old (written_lines document)
   pub grows : Grows old new
-  pub begins : source ≡ begun (spaces_of document) (given_of new document)
+  pub begins : source ≡ begun (spaces_of document) (given_of new [] document)
   pub proper : IsProper new source
 
 -- the lines before a script: those of a stylesheet or none, and a document's behind its head
@@ -79,8 +80,8 @@ pub record IsOpening (lines : List (List ℕ)) (opening : Opening) : Type 0 wher
   pub spelled : lines ≡ opening_lines style document
   pub table : opening.names ≡ names_of style document
   pub rules : opening.style ≡ rules_for style document
-  pub begins : opening.source ≡ start style document
-  pub proper : IsProper opening.names opening.source
+  pub begins : opening.source.source ≡ start style document
+  pub proper : IsProper opening.names opening.source.source
 
 -- no stylesheet, nor none, and no document have these lines
 abbrev pub IsNoOpening : List (List ℕ) → Type 0
@@ -95,5 +96,5 @@ pub record IsJudged (input : List ℕ) (sections : Sections) : Type 0 where
   pub within : sections.first ≤ length sections.lines.items
   pub table : sections.names ≡ names_of style document
   pub rules : sections.style ≡ rules_for style document
-  pub begins : sections.source ≡ start style document
-  pub proper : IsProper sections.names sections.source
+  pub begins : sections.source.source ≡ start style document
+  pub proper : IsProper sections.names sections.source.source

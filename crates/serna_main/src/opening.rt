@@ -139,7 +139,7 @@ fn document_of(
     lines: &[Line],
     names: &mut NameTable,
 ) -> Result<Option<SourceTree>, NoMemory>
-    ensures begun { IfOk result (λ found. IfSome found (Begins (map (λ line. line.bytes) lines.now) names.old names.new)) }
+    ensures begun { IfOk result (λ found. IfSome found (λ tree. Begins (map (λ line. line.bytes) lines.now) names.old names.new tree.source)) }
     ensures none { IfOk result (λ found. IfNone found (IsNoDocument (map (λ line. line.bytes) lines.now))) }
 {
     match tree_of(alloc, lines, names)? {

@@ -1,4 +1,4 @@
-ghost use Rattle.std.specs.Prelude.{◌≡◌, ◌≤◌, IfOk, OnOk, IsErrOf, length};
+ghost use Rattle.std.specs.Prelude.{◌≡◌, ◌≤◌, ◌+◌, IfOk, IfSome, OnOk, IsErrOf, length};
 ghost use Rattle.serna_outside.specs.Outside.{Consumes, IsAtEnd, Rose};
 
 use serna_outside::{Got, Source};
@@ -16,11 +16,14 @@ pub(crate) const MOST: usize = 16384;
 
 const BUFFER: usize = 4096;
 
-/// Reads the input to its end, or until it is longer than an input of the built form may be.
+/// Reads the input to its end, or until it is longer than an input of the built form may be. Each call of `read` but one gives
+/// a byte.
 pub(crate) fn read_input<S: Source>(alloc: Global, source: &mut S) -> Result<Vec<u8>, ReadError>
     ensures read { IfOk result (λ bytes. Consumes (S.left source.old) (S.left source.new) bytes.items) }
     ensures whole { IfOk result (λ bytes. length bytes.items ≤ 16384 → IsAtEnd (S.left source.new)) }
     ensures kept { OnOk result (S.faults source.new ≡ S.faults source.old) }
+    ensures calls { IfSome (S.left source.old) (λ before. IfSome (S.left source.new) (λ after. S.calls source.new + length after ≤ S.calls source.old + length before + 1)) }
+    ensures calls_in_all { S.calls source.new ≤ S.calls source.old + 16385 }
     ensures failed { IsErrOf result ReadError.Failed → Rose (S.faults source.old) (S.faults source.new) }
 {
     let mut bytes = Vec::new(alloc);

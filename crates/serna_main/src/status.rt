@@ -4,17 +4,17 @@ ghost use Rattle.serna_main.specs.Status.{number_of};
 /// How a run ended.
 #[derive(Clone, Copy, Debug, PartialEq, Eq)]
 pub enum Status {
-    /// The input was read to its end, all replies were written, and the sink was finished.
+    /// The input was read to its end, all replies were written, and `finish` answered true.
     Ok,
     /// The words are in no accepted form.
     BadWords,
     /// The input is not a document of the built form with a script, and a stylesheet of the built form before it or none.
     InputRefused,
-    /// The source failed.
+    /// The source failed: its count of faults rose.
     ReadFault,
-    /// The sink failed.
+    /// The sink failed, in a write or in `finish` after all replies were written: its count of faults rose.
     WriteFault,
-    /// There was no memory.
+    /// There was no memory. Any run may end so.
     NoMemory,
 }
 

@@ -2,7 +2,7 @@ ghost use Rattle.std.specs.Prelude.{◌≤◌};
 
 use crate::{Status, serna_alone};
 use serna_kinds::Items;
-use serna_outside::{MemorySink, MemorySource, Put, Sink, SureSource};
+use serna_outside::{Got, MemorySink, MemorySource, Put, Sink, Source, SureSource};
 use std::alloc::{AllocError, Global};
 use std::test::Fail;
 
@@ -43,6 +43,8 @@ impl Sink for OneByte {
     ghost held = { λ s. Some s.0.held };
 
     ghost faults = { λ s. s.0.faults };
+
+    ghost is_finished = { λ s. s.0.finished };
 
     fn write(&mut self, piece: &[u8]) -> Put {
         self.0.write(&piece[..1])
@@ -173,6 +175,95 @@ fn faults(rt: HostRuntime) -> Result<(), Fail> {
             "at call {call} of the sink"
         );
         assert_eq!(rt; ran.held.len(), 10 * (call as usize - 1).min(2));
+    }
+    Ok(())
+}
+
+// A run, and how many calls of its source and of its sink there are.
+#[derive(Clone, Copy)]
+struct Calling {
+    words: usize,
+    input: &'static [u8],
+    failing_reads: &'static [u64],
+    failing_calls: &'static [u64],
+    status: Status,
+    finished: bool,
+}
+
+// The last number of each list is that of the first call after the run. A run makes one call of the sink for each line that is
+// offered, and then `finish`, but not after a write that failed; and one of the source for each piece, and one at the end.
+const CALLINGS: [Calling; 6] = [
+    Calling {
+        words: 0,
+        input: TWICE,
+        failing_reads: &[3],
+        failing_calls: &[4],
+        status: Status::Ok,
+        finished: true,
+    },
+    Calling {
+        words: 0,
+        input: CUT,
+        failing_reads: &[3],
+        failing_calls: &[3],
+        status: Status::InputRefused,
+        finished: true,
+    },
+    Calling {
+        words: 1,
+        input: TWICE,
+        failing_reads: &[1],
+        failing_calls: &[3],
+        status: Status::BadWords,
+        finished: true,
+    },
+    Calling {
+        words: 0,
+        input: TWICE,
+        failing_reads: &[1, 2],
+        failing_calls: &[2],
+        status: Status::ReadFault,
+        finished: true,
+    },
+    Calling {
+        words: 0,
+        input: TWICE,
+        failing_reads: &[3],
+        failing_calls: &[2, 3],
+        status: Status::WriteFault,
+        finished: false,
+    },
+    Calling {
+        words: 0,
+        input: TWICE,
+        failing_reads: &[3],
+        failing_calls: &[3, 4],
+        status: Status::WriteFault,
+        finished: true,
+    },
+];
+
+#[test]
+fn finish_is_the_last_call(rt: HostRuntime) -> Result<(), Fail> {
+    let alloc = rt.alloc();
+    let mut words = Vec::new(alloc);
+    words.push(String::from_str(alloc, "x")?)?;
+    for row in CALLINGS {
+        let bytes = Items::from_slice(alloc, row.input)?;
+        let reads = Items::from_slice(alloc, row.failing_reads)?;
+        let calls = Items::from_slice(alloc, row.failing_calls)?;
+        let mut source = MemorySource::new(bytes, reads, 64);
+        let mut sink = MemorySink::new(alloc, calls, 64)?;
+        let status = serna_alone(
+            alloc,
+            &words.as_slice()[..row.words.min(1)],
+            &mut source,
+            &mut sink,
+        );
+        assert_eq!(rt; status, row.status);
+        assert_eq!(rt; sink.is_finished(), row.finished);
+        assert!(rt; !sink.finish());
+        assert_eq!(rt; source.read(&mut [0]), Got::Failed);
     }
     Ok(())
 }

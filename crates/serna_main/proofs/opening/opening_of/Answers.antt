@@ -33,8 +33,8 @@ returns-clause-begun c =
     let behind : List Line = take (length lines - (place + 1)) (drop (place + 1) lines) in
     let styled : IsStyled (bytes_of (take place lines)) c.in-Some-2.names c.in-Some-2.style =
     subst (λ o. IfSome o (λ read. IsStyled (bytes_of (take place lines)) read.0 read.1)) c.in-Some-2.is c.in_ok-names.ensures.styled in
-    let begins : Begins (bytes_of behind) c.in-Some-2.names c.document_of.new.names c.in-Some-3.source =
-    subst (λ o. IfSome o (Begins (bytes_of behind) c.in-Some-2.names c.document_of.new.names)) c.in-Some-3.is c.in_ok-source.ensures.begun in
+    let begins : Begins (bytes_of behind) c.in-Some-2.names c.document_of.new.names c.in-Some-3.source.source =
+    subst (λ o. IfSome o (λ tree. Begins (bytes_of behind) c.in-Some-2.names c.document_of.new.names tree.source)) c.in-Some-3.is c.in_ok-source.ensures.begun in
     is_opening (bytes_of lines) (bytes_of (take place lines)) (bytes_of (drop (place + 1) lines)) c.in-Some-2.names c.document_of.new.names c.in-Some-2.style c.in-Some-3.source
     (cut_at document_head lines place c.in-Some.ensures) styled
-    (subst (λ ls. Begins (bytes_of ls) c.in-Some-2.names c.document_of.new.names c.in-Some-3.source) (take_rest lines (place + 1)) begins)
+    (subst (λ ls. Begins (bytes_of ls) c.in-Some-2.names c.document_of.new.names c.in-Some-3.source.source) (take_rest lines (place + 1)) begins)

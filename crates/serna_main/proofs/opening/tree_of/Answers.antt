@@ -1,5 +1,6 @@
 use Rattle.std.proofs.Common.{ap, ◌∙◌, sym, subst}
 use Rattle.tree_lines.specs.Declarations.{spaces_in}
+use Rattle.tree_lines.specs.Given.{numbers_of}
 use Rattle.tree_lines.specs.Tokens.{names_with}
 use Rattle.serna_main.specs.Sections.{ArePlain}
 use Rattle.serna_main.proofs.Splitting.{plain_lines, not_plain}
@@ -19,6 +20,7 @@ returns-in-Ok-clause-read c =
       spelled = found.2;
       table = c.in-Ok.ensures.table ∙ ap (names_with c.args.names.now) found.2;
       grows = c.in-Ok.ensures.grows;
+      numbers = numbers_of c.args.lines.now;
       items = c.in-Ok.ensures.given;
       spaces = λ other e. c.in-Ok.ensures.spaces ∙ ap spaces_in e;
       named = c.in-Ok.ensures.named;

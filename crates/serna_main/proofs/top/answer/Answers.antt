@@ -1,4 +1,4 @@
-use Rattle.std.proofs.Common.{sym, subst, IfSome}
+use Rattle.std.proofs.Common.{sym, subst, IfSome, IsTrue}
 use Rattle.std.specs.Option.{IfNone}
 use Rattle.plain_editor.proofs.Steps.{opened_sound}
 use Rattle.serna_main.specs.Out.{IsRefused}
@@ -11,12 +11,12 @@ use Rattle.serna_main.proofs.top.answer.Goals as goal
 pub obey-requires : goal.obey-requires
 obey-requires g c =
     let j : IsJudged c.args.input.now c.in-Ok-Some.sections = subst (λ o. IfSome o (IsJudged c.args.input.now)) c.in-Ok-Some.field-0-is c.in-Ok-Some.ensures.accepted in
-    record { within = j.within; sound = (c.in-Ok-Some.sections.names, opened_sound c.in-Ok-Some.sections.names c.in-Ok-Some.sections.source j.proper) }
+    record { within = j.within; sound = (c.in-Ok-Some.sections.names, opened_sound c.in-Ok-Some.sections.names c.in-Ok-Some.sections.source.source j.proper) }
 
 pub returns-in-Err : goal.returns-in-Err
 returns-in-Err g c =
-    answered_no_memory c.args.input.now (g.K.Sink.held c.args.sink.now) (g.K.Sink.held c.close.new.sink) (g.K.Sink.faults c.args.sink.now) (g.K.Sink.faults c.close.new.sink) (g.K.Sink.is_finished c.close.new.sink)
-    c.close.result (λ bytes other out. subst (λ h. AppendsFront (g.K.Sink.held c.args.sink.now) h bytes) (sym c.close.ensures.held) (front_none (g.K.Sink.held c.args.sink.now) bytes)) c.close.ensures.status
+    answered_no_memory c.args.input.now (g.K.Sink.held c.args.sink.now) (g.K.Sink.held c.close.new.sink) (g.K.Sink.faults c.args.sink.now) (g.K.Sink.faults c.close.new.sink) (IsTrue (g.K.Sink.is_finished c.close.new.sink))
+    c.close.result (λ bytes other out. subst (λ h. AppendsFront (g.K.Sink.held c.args.sink.now) h bytes) (sym c.close.ensures.held) (front_none (g.K.Sink.held c.args.sink.now) bytes)) c.close.ensures.finished c.close.ensures.status
 
 pub returns-in-Ok-None : goal.returns-in-Ok-None
 returns-in-Ok-None g c =
