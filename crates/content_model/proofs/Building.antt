@@ -1,21 +1,19 @@
 -- What the builder's steps show.
-use Rattle.std.proofs.Common.{◌≡◌, ◌≢◌, ◌+◌, ◌<◌, ℕ, Bool, true, false, cond, List, [], ◌∷◌, ◌++◌, map, reverse, Option, Some, None, sym, refl, ap, ◌∙◌, subst, arith, append_assoc, codes, ◌==◌}
+use Rattle.std.proofs.Common.{◌≡◌, ◌≢◌, ℕ, Bool, true, false, cond, List, [], ◌∷◌, ◌++◌, map, reverse, Some, None, sym, refl, ap, ◌∙◌, arith, append_assoc, codes, ◌==◌}
 use Rattle.std.proofs.lemmas.Bool.Decides.{nat_tests}
 use Rattle.std.proofs.lemmas.List.{append-nil, reverse-reverse}
 use Rattle.content_model.specs.declared.particle.Separator.TheVariants.{Sequence, Choice}
 use Rattle.content_model.specs.declared.particle.Node.{Node}
-use Rattle.content_model.specs.declared.particle.Node.TheVariants as node
 use Rattle.content_model.specs.declared.builder.Place.TheVariants as place
-use Rattle.content_model.specs.declared.builder.Begun.{Begun}
 use Rattle.content_model.specs.declared.builder.Builder.{Builder}
 use Rattle.content_model.specs.declared.reader.NamePart.TheVariants.{First}
-use Rattle.content_model.specs.Particle.{Particle, Content, Name, Joined, Repeated, Empty, Any, Mixed, Group, renamed, with_names}
-use Rattle.content_model.specs.Grammar.{begins_name}
+use Rattle.content_model.specs.Particle.{Particle, Content, Name, Joined, Repeated, Mixed, Group, renamed, with_names}
+use Rattle.serna_kinds.specs.Qualified.{begins_name}
 use Rattle.content_model.specs.Passes.{is_nullable, nodes_of}
 use Rattle.content_model.specs.Stored.{first_particle, rest_particles, join_top}
 use Rattle.content_model.specs.Kept.{from_nodes, particle_of, AreNodes}
-use Rattle.content_model.specs.Machine.{Frame, State, Want, Behind, Mixing, MixedName, MixedEnd, MixedDone, NoContent, AnyContent, Slot, InGroup, InMixed, slot_state, Reading, Fixed, InName, begin_word, begin_text, finished}
-use Rattle.content_model.specs.Shown.{Shows, Begins, Ends, shown_frame, frame_nodes, frames_of}
+use Rattle.content_model.specs.Machine.{Frame, State, Want, Behind, Mixing, MixedName, MixedEnd, MixedDone, NoContent, AnyContent, Slot, InGroup, InMixed, slot_state, Fixed, InName, begin_word, begin_text, finished}
+use Rattle.content_model.specs.Shown.{Shows, shown_frame}
 use Rattle.content_model.proofs.Marked.{is_nullable-bare}
 use Rattle.content_model.proofs.Passing.{nodes_of-renamed}
 

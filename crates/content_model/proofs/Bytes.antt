@@ -1,19 +1,18 @@
 -- The machine over bytes and the tokens that they spell.
-use Rattle.std.proofs.Common.{◌≡◌, ◌≢◌, ◌<◌, ◌≤◌, ◌+◌, ◌⊎◌, ◌==◌, ℕ, zero, suc, Bool, true, false, cond, List, [], ◌∷◌, ◌++◌, Option, Some, None, sym, refl, ap, ◌∙◌, subst, inl, inr, append_assoc, arith, length, codes, take, drop}
+use Rattle.std.proofs.Common.{◌≡◌, ◌⊎◌, ◌==◌, ℕ, Bool, true, false, cond, List, [], ◌∷◌, ◌++◌, Option, Some, None, sym, refl, ap, ◌∙◌, subst, inl, inr, append_assoc, codes}
 use Rattle.std.specs.List.{AllByRecursion}
 use Rattle.std.specs.Option.{option_map}
 use Rattle.std.proofs.lemmas.Bool.{eqb-true}
-use Rattle.std.proofs.lemmas.Bool.Decides.{nat_tests}
 use Rattle.std.proofs.lemmas.List.{append-nil}
-use Rattle.content_model.specs.declared.particle.Separator.{Separator}
 use Rattle.content_model.specs.declared.particle.Separator.TheVariants.{Sequence, Choice}
 use Rattle.content_model.specs.declared.particle.Occurrence.TheVariants.{Optional, ZeroOrMore, OneOrMore}
 use Rattle.content_model.specs.declared.reader.NamePart.{NamePart}
 use Rattle.content_model.specs.declared.reader.NamePart.TheVariants.{First, Colon, Local}
-use Rattle.content_model.specs.Particle.{Particle, Content, Name, Joined, Repeated, Empty, Any, Mixed, Group}
-use Rattle.content_model.specs.Grammar.{Token, Open, Close, Between, Times, Text, Nothing, Anything, Word, begins_name, continues_name, IsLocalName, IsName, spelling, IsToken, AreSpaces, Spells, IsModel, IsText, BeginsModel, IsFirstFault}
-use Rattle.content_model.specs.Machine.{Frame, State, Want, Behind, Mixing, MixedName, MixedEnd, MixedDone, NoContent, AnyContent, Slot, InGroup, InMixed, slot_state, filled, Reading, At, Fixed, InName, mark_at, after_mark, begin_keyword, begin_text, begin_word, begin_token, begin, next_part, end_name, in_name, fixed, in_fixed, step, run, start, finished, finish}
-use Rattle.content_model.proofs.Completeness.{after, outcome, reads_model}
+use Rattle.content_model.specs.Particle.{Content}
+use Rattle.serna_kinds.specs.Qualified.{begins_name, continues_name}
+use Rattle.content_model.specs.Grammar.{Token, Open, Close, Between, Times, Text, Nothing, Anything, Word, IsLocalName, IsName, spelling, IsToken, AreSpaces, Spells, IsText}
+use Rattle.content_model.specs.Machine.{Frame, State, Want, Behind, Mixing, MixedName, MixedEnd, MixedDone, NoContent, AnyContent, Slot, InGroup, InMixed, slot_state, filled, Reading, At, Fixed, InName, mark_at, after_mark, begin_keyword, begin_text, begin_word, begin_token, begin, next_part, end_name, in_name, fixed, in_fixed, step, run, start, finish}
+use Rattle.content_model.proofs.Completeness.{after}
 use Rattle.content_model.proofs.Soundness.{Has, has_more, has_start, has_finished}
 
 -- bytes read in two parts

@@ -1,14 +1,14 @@
 -- The machine reads each text of the grammar.
-use Rattle.std.proofs.Common.{◌≡◌, ◌≢◌, ◌<◌, ◌≤◌, ◌+◌, ◌⊎◌, ℕ, zero, suc, Bool, true, false, cond, List, [], ◌∷◌, ◌++◌, Option, Some, None, sym, refl, ap, ◌∙◌, subst, inl, inr, append_assoc, arith, length, nat_lt}
+use Rattle.std.proofs.Common.{◌≡◌, ◌<◌, ◌≤◌, ◌+◌, ◌⊎◌, ℕ, zero, suc, Bool, true, false, cond, List, [], ◌∷◌, ◌++◌, Option, Some, None, sym, refl, ap, ◌∙◌, inl, inr, append_assoc, arith, length, nat_lt}
 use Rattle.std.specs.List.{AllByRecursion}
 use Rattle.std.proofs.lemmas.Bool.Decides.{nat_tests}
 use Rattle.std.proofs.lemmas.List.{append-nil}
 use Rattle.content_model.specs.declared.particle.Separator.{Separator}
 use Rattle.content_model.specs.declared.particle.Separator.TheVariants.{Sequence, Choice}
-use Rattle.content_model.specs.declared.particle.Occurrence.TheVariants.{Optional, ZeroOrMore, OneOrMore}
-use Rattle.content_model.specs.Particle.{Particle, Content, Name, Joined, Repeated, Empty, Any, Mixed, Group}
-use Rattle.content_model.specs.Grammar.{Token, Open, Close, Between, Times, Text, Nothing, Anything, Word, Part, behind, joined, signed, MaySign, IsWord, IsGroup, alternatives, IsModel}
-use Rattle.content_model.specs.Machine.{Frame, State, Want, Behind, Mixing, MixedName, MixedEnd, MixedDone, NoContent, AnyContent, gather, is_same, may_follow, after_open, after_close, after_between, after_times, after_mark, finished}
+use Rattle.content_model.specs.declared.particle.Occurrence.TheVariants.{ZeroOrMore}
+use Rattle.content_model.specs.Particle.{Particle, Content, Name, Empty, Any, Mixed, Group}
+use Rattle.content_model.specs.Grammar.{Token, Open, Close, Between, Times, Text, Nothing, Anything, Word, Part, behind, joined, MaySign, IsWord, IsGroup, alternatives, IsModel}
+use Rattle.content_model.specs.Machine.{Frame, State, Want, Behind, Mixing, MixedName, MixedEnd, NoContent, AnyContent, gather, is_same, may_follow, after_open, after_close, after_between, after_times, finished}
 
 -- where a token leads that is no mark
 abbrev pub after_text : State → Option State

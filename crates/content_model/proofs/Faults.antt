@@ -1,5 +1,5 @@
 -- The machine reads each text of a model, and stops at the first fault of every other.
-use Rattle.std.proofs.Common.{◌≡◌, ◌≢◌, ◌<◌, ◌≤◌, ◌+◌, ◌⊎◌, ◌==◌, ℕ, zero, suc, Bool, true, false, cond, List, [], ◌∷◌, ◌++◌, Option, Some, None, sym, refl, ap, ◌∙◌, subst, inl, inr, append_assoc, arith, length, codes, take, drop, get_or, drop-cons, add-one, eq-eqb}
+use Rattle.std.proofs.Common.{◌≡◌, ◌<◌, ◌≤◌, ◌==◌, ℕ, suc, Bool, true, false, cond, List, [], ◌∷◌, ◌++◌, Option, Some, None, sym, refl, ap, ◌∙◌, subst, inl, inr, append_assoc, arith, length, codes, take, drop, get_or, eq-eqb}
 use Rattle.std.specs.List.{AllByRecursion}
 use Rattle.std.specs.Option.{option_map}
 use Rattle.std.proofs.lemmas.Bool.{eqb-true, cases_lt}
@@ -10,9 +10,10 @@ use Rattle.content_model.specs.declared.particle.Separator.TheVariants.{Sequence
 use Rattle.content_model.specs.declared.particle.Occurrence.TheVariants.{Optional, ZeroOrMore, OneOrMore}
 use Rattle.content_model.specs.declared.reader.NamePart.{NamePart}
 use Rattle.content_model.specs.declared.reader.NamePart.TheVariants.{First, Colon, Local}
-use Rattle.content_model.specs.Particle.{Particle, Content, Name, Joined, Repeated, Empty, Any, Mixed, Group}
-use Rattle.content_model.specs.Grammar.{Token, Open, Close, Between, Times, Text, Nothing, Anything, Word, begins_name, continues_name, IsLocalName, IsName, spelling, IsToken, AreSpaces, Spells, IsModel, IsText, BeginsModel, IsFirstFault}
-use Rattle.content_model.specs.Machine.{Frame, State, Want, Behind, Mixing, MixedName, MixedEnd, MixedDone, NoContent, AnyContent, Slot, InGroup, InMixed, slot_state, filled, Reading, At, Fixed, InName, mark_at, begin_text, begin_token, begin, after_open, after_close, after_between, after_times, in_name, next_part, fixed, in_fixed, step, run, start, gather, finished, finish}
+use Rattle.content_model.specs.Particle.{Particle, Content, Name, Empty, Any, Mixed, Group}
+use Rattle.serna_kinds.specs.Qualified.{begins_name, continues_name}
+use Rattle.content_model.specs.Grammar.{Token, Open, Close, Between, Times, Text, Nothing, Anything, Word, IsName, spelling, IsToken, AreSpaces, Spells, IsText, BeginsModel, IsFirstFault}
+use Rattle.content_model.specs.Machine.{Frame, State, Want, Behind, Mixing, MixedName, MixedEnd, MixedDone, NoContent, AnyContent, Slot, InGroup, InMixed, slot_state, filled, Reading, At, Fixed, InName, mark_at, begin_text, begin_token, begin, after_open, after_close, after_between, after_times, in_name, next_part, fixed, step, run, start, gather, finished, finish}
 use Rattle.content_model.proofs.Completeness.{after, after_text, after_word, after_keyword, outcome, reads_model}
 use Rattle.content_model.proofs.Bytes.{ending, run-append, HasBytes, has_run, has_begun, is_text}
 

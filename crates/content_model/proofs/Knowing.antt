@@ -5,9 +5,8 @@ use Rattle.std.specs.Str.{bytes_eq}
 use Rattle.std.proofs.lemmas.List.{map-append, take_all}
 use Rattle.std.proofs.lemmas.Slice.Eq.{bytes_eq-Decides}
 use Rattle.std.proofs.Math.Seq.{take-suc}
-use Rattle.content_model.specs.declared.particle.Separator.TheVariants.{Sequence, Choice}
 use Rattle.content_model.specs.Particle.{Particle, Content, Name, Joined, Repeated, Empty, Any, Mixed, Group, renamed, with_names, particle_names, content_names}
-use Rattle.content_model.specs.Symbols.{symbol_from, symbol_in, number_in, Grows}
+use Rattle.content_model.specs.Symbols.{symbol_from, number_in, Grows}
 use Rattle.content_model.specs.Machine.{Reading, start, run, step, finish}
 use Rattle.content_model.specs.declared.reader.Reader.{Reader}
 use Rattle.content_model.specs.ShownReader.{Reads, Goes}
@@ -22,7 +21,7 @@ particle_names-renamed f (Joined s p q) =
     ap (λ l. l ++ particle_names (renamed f q)) (particle_names-renamed f p) ∙ ap (λ l. map f (particle_names p) ++ l) (particle_names-renamed f q) ∙ sym (map-append f (particle_names p) (particle_names q))
 particle_names-renamed f (Repeated o p) = particle_names-renamed f p
 
-content_names-with_names : {A B : Type 0} (f : A → B) (c : Content A) → content_names (with_names f c) ≡ map f (content_names c)
+pub content_names-with_names : {A B : Type 0} (f : A → B) (c : Content A) → content_names (with_names f c) ≡ map f (content_names c)
 content_names-with_names f Empty = refl
 content_names-with_names f Any = refl
 content_names-with_names f (Mixed names) = refl

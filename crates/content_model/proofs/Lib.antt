@@ -9,3 +9,4 @@ pub mod Bytes
 pub mod Faults
 pub mod Reading
 pub mod Knowing
+pub mod Naming

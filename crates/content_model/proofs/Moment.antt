@@ -1,12 +1,12 @@
 -- What holds between two children of a word that is matched.
-use Rattle.std.proofs.Common.{◌≡◌, ◌↔◌, ◌⊎◌, ℕ, Bool, true, false, ◌&&◌, ◌||◌, List, [], ◌∷◌, sym, refl, ap, ◌∙◌, subst, inl, inr, fold, reverse, IsTrue}
+use Rattle.std.proofs.Common.{◌≡◌, ℕ, Bool, true, false, ◌&&◌, ◌||◌, List, [], ◌∷◌, sym, refl, ap, ◌∙◌, subst, inl, inr, fold, reverse}
 use Rattle.content_model.specs.declared.particle.Node.{Node}
 use Rattle.content_model.specs.declared.stack.Stacks.{Stacks}
 use Rattle.content_model.specs.Particle.{Particle}
 use Rattle.content_model.specs.Language.{Matches}
 use Rattle.content_model.specs.Stack.{top}
 use Rattle.content_model.specs.Passes.{is_nullable, nodes_of, settle_node, no_stacks, without_end, after_child}
-use Rattle.content_model.proofs.Marked.{Marked, bare, is_final, shift, Live, Rest, bare-shift, shift_live, live_shift, nullable_matches, matches_nullable, final_rest, rest_final, none_left, and-true, true-and, or-true, or-left, or-right}
+use Rattle.content_model.proofs.Marked.{Marked, bare, is_final, shift, Live, bare-shift, shift_live, live_shift, nullable_matches, matches_nullable, final_rest, rest_final, none_left, and-true, true-and, or-true, or-left, or-right}
 use Rattle.content_model.proofs.Passing.{stacks, kept_of, unmarked, bare-unmarked, is_final-unmarked, settle-start, passes-shift}
 
 -- The stacks hold marks of the particle. The word is in its language exactly where its rest leads on from there.

@@ -1,7 +1,6 @@
 -- The two passes over the nodes of a marked particle are one shift of its marks.
-use Rattle.std.proofs.Common.{◌≡◌, ℕ, Bool, true, false, ◌&&◌, ◌||◌, List, [], ◌∷◌, ◌++◌, sym, refl, ap, ◌∙◌, subst, append_assoc, fold, reverse}
+use Rattle.std.proofs.Common.{◌≡◌, ℕ, Bool, false, ◌&&◌, ◌||◌, List, [], ◌∷◌, ◌++◌, sym, refl, ap, ◌∙◌, append_assoc, fold, reverse}
 use Rattle.std.proofs.lemmas.List.{reverse-append, reverse-reverse, append-nil}
-use Rattle.std.proofs.lemmas.List.Sums.{fold-append}
 use Rattle.content_model.specs.declared.particle.Separator.TheVariants.{Sequence, Choice}
 use Rattle.content_model.specs.declared.particle.Occurrence.TheVariants.{Optional, ZeroOrMore, OneOrMore}
 use Rattle.content_model.specs.declared.particle.Node.{Node}

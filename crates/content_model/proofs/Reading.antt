@@ -1,16 +1,15 @@
 -- What the reader's steps show.
-use Rattle.std.proofs.Common.{◌≡◌, ◌<◌, ◌≤◌, ◌+◌, ◌-◌, ◌==◌, ℕ, suc, Bool, true, false, cond, List, [], ◌∷◌, ◌++◌, Option, Some, None, Bor, sym, refl, ap, ◌∙◌, subst, arith, append_assoc, length, get_or, take, drop, eq-eqb, is_some, unwrap_or, slice_range}
+use Rattle.std.proofs.Common.{◌≡◌, ◌<◌, ◌≤◌, ◌+◌, ◌-◌, ℕ, suc, Bool, true, false, cond, List, [], ◌∷◌, ◌++◌, Option, Some, None, Bor, sym, refl, ap, ◌∙◌, subst, arith, append_assoc, length, get_or, take, drop, eq-eqb, is_some, unwrap_or, slice_range}
 use Rattle.std.proofs.lemmas.List.{append-nil, get_or-drop, length-drop}
 use Rattle.std.proofs.Math.Seq.{take-suc}
 use Rattle.content_model.specs.declared.reader.NamePart.{NamePart}
 use Rattle.content_model.specs.declared.reader.NamePart.TheVariants.{First, Colon, Local}
-use Rattle.content_model.specs.declared.reader.Token.{Token}
 use Rattle.content_model.specs.declared.reader.Token.TheVariants as token
 use Rattle.content_model.specs.declared.reader.Reader.{Reader}
 use Rattle.content_model.specs.Symbols.{symbol_in, number_in, with_name, Grows}
-use Rattle.content_model.specs.Machine.{State, Slot, slot_state, filled, Reading, At, Fixed, InName, begin, begin_word, begin_token, mark_at, fixed, in_fixed, next_part, in_name, end_name, step, finish}
+use Rattle.content_model.specs.Machine.{State, Slot, slot_state, filled, Reading, At, Fixed, InName, begin, begin_word, begin_token, mark_at, fixed, in_fixed, next_part, in_name, end_name, step}
 use Rattle.content_model.specs.Shown.{Shows}
-use Rattle.content_model.specs.ShownReader.{ReadsAs, Reads, GoesAs, Goes, BeganBy, IsLeft, IsOff, is_colon}
+use Rattle.content_model.specs.ShownReader.{ReadsAs, Reads, GoesAs, Goes, IsLeft, IsOff, is_colon}
 use Rattle.content_model.specs.declared.builder.Builder.{Builder}
 use Rattle.content_model.proofs.Table.{symbol_lasting}
 use Rattle.content_model.proofs.Building.{not_equal}

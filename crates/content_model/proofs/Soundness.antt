@@ -1,14 +1,14 @@
 -- What the machine reads is in the grammar: the tokens so far are those of the state.
-use Rattle.std.proofs.Common.{◌≡◌, ◌≢◌, ◌<◌, ◌≤◌, ◌+◌, ◌⊎◌, ℕ, zero, suc, Bool, true, false, cond, List, [], ◌∷◌, ◌++◌, Option, Some, None, sym, refl, ap, ◌∙◌, subst, inl, inr, append_assoc, arith, length, nat_lt}
+use Rattle.std.proofs.Common.{◌≡◌, ◌<◌, ◌+◌, ◌⊎◌, ℕ, zero, suc, Bool, true, false, cond, List, [], ◌∷◌, ◌++◌, Option, Some, None, sym, refl, ap, ◌∙◌, subst, inl, inr, append_assoc, arith, length, nat_lt}
 use Rattle.std.specs.List.{AllByRecursion}
 use Rattle.std.proofs.lemmas.Bool.Decides.{nat_tests}
 use Rattle.std.proofs.lemmas.List.{append-nil}
 use Rattle.content_model.specs.declared.particle.Separator.{Separator}
 use Rattle.content_model.specs.declared.particle.Separator.TheVariants.{Sequence, Choice}
 use Rattle.content_model.specs.declared.particle.Occurrence.TheVariants.{Optional, ZeroOrMore, OneOrMore}
-use Rattle.content_model.specs.Particle.{Particle, Content, Name, Joined, Repeated, Empty, Any, Mixed, Group}
+use Rattle.content_model.specs.Particle.{Particle, Content, Name, Joined, Repeated}
 use Rattle.content_model.specs.Grammar.{Token, Open, Close, Between, Times, Text, Nothing, Anything, Word, Part, behind, joined, signed, MaySign, IsWord, IsGroup, alternatives, IsModel}
-use Rattle.content_model.specs.Machine.{Frame, State, Want, Behind, Mixing, MixedName, MixedEnd, MixedDone, NoContent, AnyContent, gather, is_same, may_follow, after_open, after_close, after_between, after_times, after_mark, finished}
+use Rattle.content_model.specs.Machine.{Frame, State, Want, Behind, Mixing, MixedName, MixedEnd, MixedDone, NoContent, AnyContent, gather, is_same, may_follow, after_open, after_close, after_between, after_times, finished}
 use Rattle.content_model.proofs.Completeness.{after, after_text, after_word, after_keyword}
 
 -- a part of a group in which this many parentheses may still be opened

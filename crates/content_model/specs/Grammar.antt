@@ -1,6 +1,7 @@
 -- The texts of content models (XML 1.0, sections 2.3, 3.2.1 and 3.2.2, with U+0020 as the one white space).
-use Rattle.std.specs.Prelude.{◌≡◌, ◌≤◌, ◌<◌, ℕ, zero, suc, ◌⊎◌, Bool, ◌||◌, ◌&&◌, ◌==◌, nat_le, IsTrue, List, [], ◌∷◌, ◌++◌, All, codes, take, length}
-use Rattle.std.specs.List.{AllByRecursion, flat_map}
+use Rattle.std.specs.Prelude.{◌≡◌, ◌≤◌, ◌<◌, ℕ, zero, suc, ◌⊎◌, IsTrue, List, [], ◌∷◌, ◌++◌, codes, take, length}
+use Rattle.std.specs.List.{AllByRecursion}
+use Rattle.serna_kinds.specs.Qualified.{begins_name, continues_name}
 use Rattle.content_model.specs.declared.particle.Separator.{Separator}
 use Rattle.content_model.specs.declared.particle.Separator.TheVariants.{Sequence, Choice}
 use Rattle.content_model.specs.declared.particle.Occurrence.{Occurrence}
@@ -8,14 +9,6 @@ use Rattle.content_model.specs.declared.particle.Occurrence.TheVariants.{Optiona
 use Rattle.content_model.specs.Particle.{Particle, Content, Name, Joined, Repeated, Empty, Any, Mixed, Group}
 
 -- Names
-
--- whether a name can begin with this byte: an ASCII letter, `_`, or a byte of a character past ASCII
-abbrev pub begins_name : ℕ → Bool
-begins_name b = nat_le 128 b || (b == 95) || (nat_le 97 b && nat_le b 122) || (nat_le 65 b && nat_le b 90)
-
--- whether a name can go on with this byte, colons aside: one of those, `-`, `.` or a digit
-abbrev pub continues_name : ℕ → Bool
-continues_name b = begins_name b || (b == 45) || (b == 46) || (nat_le 48 b && nat_le b 57)
 
 -- a name without a colon
 abbrev pub IsLocalName : List ℕ → Type 0

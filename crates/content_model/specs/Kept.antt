@@ -1,13 +1,11 @@
 -- The model that a rule of the code stands for. No public clause speaks of it.
-use Rattle.std.specs.Prelude.{◌≡◌, ℕ, Bool, List, [], ◌∷◌, ◌++◌, reverse, refl}
-use Rattle.std.proofs.Common.{ap, sym, ◌∙◌, append_assoc}
-use Rattle.std.proofs.lemmas.List.{append-nil}
+use Rattle.std.specs.Prelude.{◌≡◌, ℕ, Bool, List, [], ◌∷◌, reverse, Option, Some, None}
 use Rattle.content_model.specs.declared.particle.Separator.TheVariants.{Sequence, Choice}
 use Rattle.content_model.specs.declared.particle.Node.{Node}
 use Rattle.content_model.specs.declared.particle.Node.TheVariants as node
 use Rattle.content_model.specs.declared.model.Rule.{Rule}
 use Rattle.content_model.specs.declared.model.Rule.TheVariants as rule
-use Rattle.content_model.specs.Particle.{Particle, Content, Name, Joined, Repeated, Empty, Any, Mixed, Group, renamed}
+use Rattle.content_model.specs.Particle.{Particle, Content, Name, Repeated, Empty, Any, Mixed, Group}
 use Rattle.content_model.specs.Passes.{nodes_of, is_nullable}
 use Rattle.content_model.specs.Stored.{join_top, first_particle, rest_particles}
 
@@ -33,6 +31,13 @@ content_of rule.Empty = Empty
 content_of rule.Any = Any
 content_of (rule.Mixed names) = Mixed names.items
 content_of (rule.Group nodes nullable) = Group (particle_of nodes.items)
+
+-- the number of a name's node
+abbrev pub name_at : Node → Option ℕ
+name_at (node.Name n) = Some n
+name_at (node.Sequence left right) = None
+name_at node.Choice = None
+name_at (node.Repeated o) = None
 
 -- the nodes are those of a particle, and nullable says whether it allows no children
 pub record AreNodes (nodes : List Node) (nullable : Bool) : Type 0 where

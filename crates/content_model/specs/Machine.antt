@@ -1,5 +1,5 @@
 -- The reader of a model as a machine over bytes, from left to right. No public clause speaks of it.
-use Rattle.std.specs.Prelude.{◌≡◌, ℕ, ◌+◌, Bool, true, false, ◌==◌, nat_lt, if◌then◌else◌, List, [], ◌∷◌, ◌++◌, Option, Some, None, codes, length}
+use Rattle.std.specs.Prelude.{ℕ, Bool, true, false, ◌==◌, nat_lt, if◌then◌else◌, List, [], ◌∷◌, ◌++◌, Option, Some, None, codes, length}
 use Rattle.std.specs.Option.{option_map}
 use Rattle.content_model.specs.declared.particle.Separator.{Separator}
 use Rattle.content_model.specs.declared.particle.Separator.TheVariants.{Sequence, Choice}
@@ -8,7 +8,8 @@ use Rattle.content_model.specs.declared.particle.Occurrence.TheVariants.{Optiona
 use Rattle.content_model.specs.declared.reader.NamePart.{NamePart}
 use Rattle.content_model.specs.declared.reader.NamePart.TheVariants.{First, Colon, Local}
 use Rattle.content_model.specs.Particle.{Particle, Content, Name, Joined, Repeated, Empty, Any, Mixed, Group}
-use Rattle.content_model.specs.Grammar.{Token, Open, Close, Between, Times, Text, Nothing, Anything, Word, begins_name, continues_name}
+use Rattle.serna_kinds.specs.Qualified.{begins_name, continues_name}
+use Rattle.content_model.specs.Grammar.{Token, Open, Close, Between, Times}
 
 -- a group that is open: its separator and the parts so far joined by it, if there are any
 abbrev pub Frame : Type 0

@@ -1,5 +1,5 @@
 -- Content models as XML 1.0, section 3.2, has them, over names that are written or numbered.
-use Rattle.std.specs.Prelude.{ℕ, List, [], ◌∷◌, ◌++◌, map}
+use Rattle.std.specs.Prelude.{List, [], ◌∷◌, ◌++◌, map}
 use Rattle.content_model.specs.declared.particle.Separator.{Separator}
 use Rattle.content_model.specs.declared.particle.Occurrence.{Occurrence}
 

@@ -1,5 +1,5 @@
 -- How the reader's state shows in the code. No public clause speaks of it.
-use Rattle.std.specs.Prelude.{◌≡◌, ◌≤◌, ℕ, Bool, true, false, List, [], ◌∷◌, ◌++◌, map, reverse, Option, Some, None}
+use Rattle.std.specs.Prelude.{◌≡◌, ℕ, Bool, true, false, List, [], ◌∷◌, ◌++◌, map, reverse, Option, Some, None}
 use Rattle.content_model.specs.declared.particle.Node.{Node}
 use Rattle.content_model.specs.declared.builder.Mark.{Mark}
 use Rattle.content_model.specs.declared.builder.Mark.TheVariants as mark

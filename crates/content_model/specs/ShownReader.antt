@@ -1,5 +1,5 @@
 -- How the reader's place in a text shows in the code. No public clause speaks of it.
-use Rattle.std.specs.Prelude.{◌≡◌, ℕ, ◌≤◌, ◌==◌, Bool, true, false, List, [], ◌∷◌, Option, Some, None, length, slice_range}
+use Rattle.std.specs.Prelude.{◌≡◌, ℕ, ◌≤◌, ◌==◌, Bool, true, false, List, [], ◌∷◌, Option, Some, None, slice_range}
 use Rattle.std.specs.Borrow.{Bor}
 use Rattle.content_model.specs.declared.reader.Token.{Token}
 use Rattle.content_model.specs.declared.reader.Token.TheVariants as token
@@ -7,7 +7,7 @@ use Rattle.content_model.specs.declared.reader.Reader.{Reader}
 use Rattle.content_model.specs.declared.reader.NamePart.{NamePart}
 use Rattle.content_model.specs.declared.reader.NamePart.TheVariants.{First, Colon, Local}
 use Rattle.content_model.specs.Symbols.{number_in, Grows}
-use Rattle.content_model.specs.Machine.{State, Slot, slot_state, Reading, At, Fixed, InName}
+use Rattle.content_model.specs.Machine.{slot_state, Reading, At, Fixed, InName}
 use Rattle.content_model.specs.Shown.{Shows}
 
 -- the reader has this of the text, up to a place in it, with these numbers for the names

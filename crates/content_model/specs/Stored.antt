@@ -1,5 +1,5 @@
 -- How a model is kept, and how its value is coded. No public clause speaks of it.
-use Rattle.std.specs.Prelude.{◌≡◌, ℕ, zero, suc, Bool, List, [], ◌∷◌, ◌++◌, map, reverse, refl}
+use Rattle.std.specs.Prelude.{◌≡◌, ℕ, zero, suc, List, [], ◌∷◌, ◌++◌, map, refl}
 use Rattle.std.specs.Coded.{Coded, code_by, coded_list, coded×, coded_ℕ}
 use Rattle.std.proofs.Common.{ap, sym, ◌∙◌, append_assoc}
 use Rattle.std.proofs.lemmas.List.{append-nil}

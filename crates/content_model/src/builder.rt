@@ -2,7 +2,6 @@
 
 ghost use Rattle.std.specs.Prelude.{◌≡◌, ◌↔◌, ◌++◌, ◌∷◌, [], ℕ, List, None, IsTrue, IfOk, OnOk, reverse};
 ghost use Rattle.content_model.specs.Particle.{Particle, Repeated};
-ghost use Rattle.content_model.specs.Grammar.{begins_name as is_name_start};
 ghost use Rattle.content_model.specs.Machine.{Frame, Slot, State, Want, is_same as is_same_separator, may_follow as may_follow_frame, slot_state, filled, after_open, after_close, after_between, after_times, after_mark, begin_word as after_first, begin_keyword as keyword_at, begin_text as text_at, finished};
 ghost use Rattle.content_model.specs.Shown.{Shows, Moves, Begins, Ends, Joins, shown_frame, token_of};
 ghost use Rattle.content_model.specs.Passes.{is_nullable};
@@ -10,6 +9,7 @@ ghost use Rattle.content_model.specs.Passes.{is_nullable};
 use crate::NoMemory;
 use crate::model::Rule;
 use crate::particle::{Node, Occurrence, Separator};
+use serna_kinds::begins_name;
 use std::alloc::Global;
 
 /// The most parentheses that may be open at once.
@@ -73,13 +73,6 @@ pub struct Builder {
     pub nullable: bool,
     /// The names of a mixed model.
     pub names: Vec<u64>,
-}
-
-/// Whether a name can begin with this byte. Bytes from 128 on are those of a character past ASCII.
-pub fn begins_name(byte: u8) -> bool
-    ensures { result ≡ is_name_start byte }
-{
-    byte >= 128 || byte == b'_' || b'a' <= byte && byte <= b'z' || b'A' <= byte && byte <= b'Z'
 }
 
 /// Whether two separators are the same.

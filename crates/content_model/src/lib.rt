@@ -13,7 +13,7 @@ mod reader;
 mod stack;
 mod symbols;
 
-pub use model::{Model, ModelFault, one_first_fault};
+pub use model::{Model, ModelFault, numbers_of_names, one_first_fault};
 pub use particle::{Occurrence, Separator};
 pub use symbols::{Symbols, number_laws};
 

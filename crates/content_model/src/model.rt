@@ -1,12 +1,12 @@
 //! A content model, read from its text and asked for lists of children.
 
-ghost use Rattle.std.specs.Prelude.{◌≡◌, ◌<◌, ◌↔◌, ◌⊎◌, ℕ, List, IsTrue, IfOk, IfErr, MatchResult, All, Contains};
-ghost use Rattle.std.specs.List.{AllByRecursion};
+ghost use Rattle.std.specs.Prelude.{◌≡◌, ◌<◌, ◌↔◌, ◌⊎◌, ℕ, List, IsTrue, IfOk, IfErr, MatchResult, All, Contains, map};
+ghost use Rattle.std.specs.List.{AllByRecursion, filter_map};
 ghost use Rattle.content_model.specs.Particle.{Content, with_names, content_names};
 ghost use Rattle.content_model.specs.Language.{Allows};
 ghost use Rattle.content_model.specs.Symbols.{number_in, Grows};
 ghost use Rattle.content_model.specs.Grammar.{IsText, IsFirstFault};
-ghost use Rattle.content_model.specs.Kept.{content_of, IsKept};
+ghost use Rattle.content_model.specs.Kept.{content_of, name_at, IsKept};
 
 use crate::matching::matches;
 use crate::particle::Node;
@@ -79,6 +79,25 @@ impl Model {
         }
     }
 
+    /// The numbers of the names that the model has, from left to right as they are written; one that is written twice stands
+    /// there twice.
+    pub fn names(&self, alloc: Global) -> Result<Vec<u64>, NoMemory>
+        ensures { IfOk result (λ names. names.items ≡ content_names self.now) }
+    {
+        match &self.rule {
+            Rule::Empty => Ok(Vec::new(alloc)),
+            Rule::Any => Ok(Vec::new(alloc)),
+            Rule::Mixed(names) => {
+                let names = Vec::from_slice(alloc, names.as_slice())?;
+                Ok(names)
+            }
+            Rule::Group(nodes, _) => {
+                let names = names_of(alloc, nodes.as_slice())?;
+                Ok(names)
+            }
+        }
+    }
+
     /// Whether the children of an element are allowed. A child element is the number of its name, and a text is 0.
     pub fn allows(&self, alloc: Global, word: &[u64]) -> Result<bool, NoMemory>
         ensures { IfOk result (λ allowed. IsTrue allowed ↔ Allows self.now word.now) }
@@ -93,6 +112,26 @@ impl Model {
             }
         }
     }
+}
+
+/// The number of a name's node; a node that joins or repeats parts has none.
+fn name_of(node: Node) -> Option<u64>
+    ensures { result ≡ name_at node }
+{
+    match node {
+        Node::Name(symbol) => Some(symbol),
+        _ => None,
+    }
+}
+
+/// The numbers of the names among a group's nodes, in their order.
+fn names_of(alloc: Global, nodes: &[Node]) -> Result<Vec<u64>, NoMemory>
+    ensures { IfOk result (λ names. names.items ≡ filter_map name_at nodes.now) }
+{
+    nodes
+        .iter()
+        .filter_map(|node| name_of(*node))
+        .collect(alloc)
 }
 
 /// Reads a model byte by byte.
@@ -125,6 +164,11 @@ fn is_mixture(names: &[u64], word: &[u64]) -> bool
     word.iter()
         .all(|symbol| *symbol == 0 || names.contains(symbol))
 }
+
+/// The law of a model's names: those of a model whose names were numbered are the numbers of its written names, in order.
+pub fn numbers_of_names()
+    ensures { (number : List ℕ → ℕ) (written : Content (List ℕ)) → content_names (with_names number written) ≡ map number (content_names written) }
+{}
 
 /// A law of the grammar: a text has one first fault at most.
 pub fn one_first_fault()

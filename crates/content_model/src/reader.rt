@@ -2,17 +2,17 @@
 
 ghost use Rattle.std.specs.Prelude.{◌≡◌, ◌<◌, ◌+◌, ◌∷◌, ℕ, List, [], IfOk, OnOk, MatchOption, length, slice_index};
 ghost use Rattle.std.specs.Option.{option_map};
-ghost use Rattle.content_model.specs.Grammar.{continues_name as is_name_byte};
 ghost use Rattle.content_model.specs.Symbols.{number_in, Grows};
 ghost use Rattle.content_model.specs.Machine.{State, Slot, Reading, Want, slot_state, filled, step, start as at_start, begin as begin_at, next_part as part_after, mark_at, finish as ending};
 ghost use Rattle.content_model.specs.Shown.{Shows, Ends, token_of};
 ghost use Rattle.content_model.specs.ShownReader.{Reads, ReadsAs, GoesAs, Goes, BeganBy, IsLeft, IsOff, is_colon as is_behind_colon};
 
 use crate::NoMemory;
-use crate::builder::{Begun, Builder, Mark, begins_name};
+use crate::builder::{Begun, Builder, Mark};
 use crate::model::Rule;
 use crate::particle::{Occurrence, Separator};
 use crate::symbols::Symbols;
+use serna_kinds::{begins_name, continues_name};
 use std::alloc::Global;
 
 /// Which part of a name a byte stands in.
@@ -41,13 +41,6 @@ pub enum Token {
 pub struct Reader {
     pub token: Token,
     pub builder: Builder,
-}
-
-/// Whether a name can go on with this byte, colons aside.
-fn continues_name(byte: u8) -> bool
-    ensures { result ≡ is_name_byte byte }
-{
-    begins_name(byte) || byte == b'-' || byte == b'.' || b'0' <= byte && byte <= b'9'
 }
 
 /// The part of a name that the next byte stands in, or `None` where the name can't go on with it.

@@ -33,7 +33,7 @@ impl Symbols {
         }
     }
 
-    /// The number of a name, a new one where the name has none.
+    /// The number of a name, a new one where the name has none. A name that has a number takes no memory.
     pub fn intern(&mut self, alloc: Global, written: &str) -> Result<u64, NoMemory>
         ensures number { IfOk result (λ n. symbol_in self.new written.now ≡ Some n) }
         // A name that has a number keeps it, and so do all others.
@@ -55,6 +55,9 @@ impl Symbols {
         ensures table { OnOk result (self.new ≡ with_name self.old written.now) }
         ensures err { OnErr result (self.new ≡ self.old) }
     {
+        if let Some(symbol) = self.find_bytes(written) {
+            return Ok(symbol);
+        }
         let name = Vec::from_slice(alloc, written)?;
         let (place, _) = self.names.insert_full(name)?;
         let _count = self.names.len();

@@ -16,55 +16,90 @@ fn is_allowed(rt: &HostRuntime, model: &str, children: &str) -> Result<bool, Fai
     Ok(model.allows(rt.alloc(), word.as_slice())?)
 }
 
+/// A model, children, and whether the model allows them.
+type Case = (&'static str, &'static str, bool);
+
+/// From the language of content particles (XML 1.0, 3.2.1 and 3.2.2).
+const ALLOWED: &[Case] = &[
+    ("(a,b?)*", "a b a", true),
+    ("(a,b?)*", "", true),
+    ("(a,b?)*", "b", false),
+    ("((a|b)+,c)", "a b c", true),
+    ("((a|b)+,c)", "c", false),
+    ("(a?,a?)", "a a", true),
+    ("(a?,a?)", "a a a", false),
+    ("(#PCDATA|a)*", "- a -", true),
+    ("(#PCDATA|a)*", "b", false),
+    ("(#PCDATA)", "-", true),
+    ("(#PCDATA)*", "- -", true),
+    ("(#PCDATA)*", "a", false),
+    ("EMPTY", "", true),
+    ("EMPTY", "a", false),
+    ("ANY", "a -", true),
+    ("(a*)*", "a a", true),
+    ("(a*)*", "", true),
+    ("( EMPTY , ANY ) +", "EMPTY ANY", true),
+    ("(a)", "-", false),
+    ("  (a)  ", "a", true),
+    ("(p:a|b)", "p:a", true),
+    ("(p:a|b)", "a", false),
+    ("(größe,東)", "größe 東", true),
+    ("(größe,東)", "grosse 東", false),
+    (
+        "((((((((((((((((((((((((((((((((((((((((((((((((((((((((((((((((a))))))))))))))))))))))))))))))))))))))))))))))))))))))))))))))))",
+        "a",
+        true,
+    ),
+];
+
 #[test]
 fn allows_by_the_table(rt: HostRuntime) -> Result<(), Fail> {
-    for (model, children, want) in [
-        ("(a,b?)*", "a b a", true),
-        ("(a,b?)*", "", true),
-        ("(a,b?)*", "b", false),
-        ("((a|b)+,c)", "a b c", true),
-        ("((a|b)+,c)", "c", false),
-        ("(a?,a?)", "a a", true),
-        ("(a?,a?)", "a a a", false),
-        ("(#PCDATA|a)*", "- a -", true),
-        ("(#PCDATA|a)*", "b", false),
-        ("(#PCDATA)", "-", true),
-        ("EMPTY", "", true),
-        ("EMPTY", "a", false),
-        ("ANY", "a -", true),
-        ("(a*)*", "a a", true),
-        ("(a*)*", "", true),
-        ("( EMPTY , ANY ) +", "EMPTY ANY", true),
-        ("(a)", "-", false),
-    ] {
-        assert_eq!(rt; is_allowed(&rt, model, children)?, want, "{model}");
+    for (model, children, want) in ALLOWED {
+        assert_eq!(rt; is_allowed(&rt, model, children)?, *want, "{model}");
     }
     Ok(())
 }
 
+/// Texts that are no models, and the first byte at which none can go on.
+const FAULTS: &[(&str, usize)] = &[
+    ("(a,b|c)", 4),
+    ("(a", 2),
+    ("()", 1),
+    ("(#PCDATA|a)", 11),
+    ("(a,,b)", 3),
+    ("a", 0),
+    ("(a))", 3),
+    (
+        "((((((((((((((((((((((((((((((((((((((((((((((((((((((((((((((((((",
+        64,
+    ),
+    ("", 0),
+    ("EMPTYX", 5),
+    ("(a:)", 3),
+    ("(a\tb)", 2),
+];
+
 #[test]
 fn finds_the_first_fault(rt: HostRuntime) -> Result<(), Fail> {
     let mut symbols = Symbols::new(rt.alloc());
-    let deep = "((((((((((((((((((((((((((((((((((((((((((((((((((((((((((((((((((";
-    for (text, place) in [
-        ("(a,b|c)", 4),
-        ("(a", 2),
-        ("()", 1),
-        ("(#PCDATA|a)", 11),
-        ("(a,,b)", 3),
-        ("a", 0),
-        ("(a))", 3),
-        (deep, 64),
-        ("", 0),
-        ("EMPTYX", 5),
-        ("(a:)", 3),
-        ("(a\tb)", 2),
-    ] {
+    for (text, place) in FAULTS {
         match Model::read(rt.alloc(), text, &mut symbols) {
-            Err(ModelFault::Syntax(at)) => assert_eq!(rt; at, place, "{text}"),
+            Err(ModelFault::Syntax(at)) => assert_eq!(rt; at, *place, "{text}"),
             _ => assert!(rt; false, "{text} was read"),
         }
     }
+    Ok(())
+}
+
+/// The names of `(b,(a|b)?,a)` by their first places: `b` is 1 and `a` is 2.
+const NUMBERS: &[u64] = &[1, 2, 1, 2];
+
+#[test]
+fn names_stand_as_they_are_written(rt: HostRuntime) -> Result<(), Fail> {
+    let mut symbols = Symbols::new(rt.alloc());
+    let model = Model::read(rt.alloc(), "(b,(a|b)?,a)", &mut symbols)?;
+    let names = model.names(rt.alloc())?;
+    assert_eq!(rt; names.as_slice(), NUMBERS);
     Ok(())
 }
 

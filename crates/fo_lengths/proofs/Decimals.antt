@@ -76,25 +76,30 @@ name_begins Millimetre c lo hi rest e = omega (arith, ap (λ t. get_or t 0 0) e)
 name_begins Em c lo hi rest e = omega (arith, ap (λ t. get_or t 0 0) e)
 name_begins Percent c lo hi rest e = omega (arith, ap (λ t. get_or t 0 0) e)
 
--- a number without a minus sign begins with none
-no_sign_text : (n : Bool) (ds : List ℕ) (f : Option (List ℕ)) (u : LengthUnit) → AllDigits 10 ds → n ≡ false → BeginsWithout 45 ((sign_text n ++ (ds ++ fraction_text f)) ++ unit_name u)
-no_sign_text true ds f u all n rest e = absurd (cc)
-no_sign_text false (d ∷ ds) f u all n rest e =
+-- a number without a minus sign begins with none, where what is behind it begins with none
+no_sign_text : (n : Bool) (ds : List ℕ) (f : Option (List ℕ)) (us : List ℕ) → AllDigits 10 ds → BeginsWithout 45 us → n ≡ false → BeginsWithout 45 ((sign_text n ++ (ds ++ fraction_text f)) ++ us)
+no_sign_text true ds f us all behind n rest e = absurd (cc)
+no_sign_text false (d ∷ ds) f us all behind n rest e =
     let minus : d ≡ 45 = ap (λ t. get_or t 0 0) e in
     let digit : digit_value 45 < 10 = (let P : ℕ → Type 0 = λ k. digit_value k < 10 in subst P minus all.0) in omega arith
-no_sign_text false [] None u all n rest e = name_begins u 45 (omega arith) (omega arith) rest e
-no_sign_text false [] (Some ds) u all n rest e = omega (arith, ap (λ t. get_or t 0 0) e)
+no_sign_text false [] None us all behind n rest e = behind rest e
+no_sign_text false [] (Some ds) us all behind n rest e = omega (arith, ap (λ t. get_or t 0 0) e)
 
--- a number and the name of a unit are a number and the rest
-pub measure_split : (value : List ℕ) (length : Length) → (m : IsMeasure value length) → IsSplitBehindDecimal value m.number (unit_name m.unit)
-measure_split value length m = record {
-  written = m.written;
-  whole = m.decimal.whole;
-  fraction = m.decimal.fraction;
-  no_sign = λ plain rest e. no_sign_text m.number.negative m.number.whole m.number.fraction m.unit m.decimal.whole plain rest (sym m.written ∙ e);
-  no_point = λ _. name_begins m.unit 46 (omega arith) (omega arith);
-  longest = name_no_digit m.unit;
+-- a number and what is behind it are a number and the rest
+pub decimal_split : (text : List ℕ) (d : Decimal) (us : List ℕ) → IsDecimal d → BeginsWithout 45 us → BeginsWithout 46 us → BeginsWithNoDigit us → text ≡ decimal_text d ++ us → IsSplitBehindDecimal text d us
+decimal_split text d us is no_sign no_point no_digit e = record {
+  written = e;
+  whole = is.whole;
+  fraction = is.fraction;
+  no_sign = λ plain rest f. no_sign_text d.negative d.whole d.fraction us is.whole no_sign plain rest (sym e ∙ f);
+  no_point = λ _. no_point;
+  longest = no_digit;
 }
+
+pub measure_split : (value : List ℕ) (length : Length) → (m : IsMeasure value length) → IsSplitBehindDecimal value m.number (unit_name m.unit)
+measure_split value length m =
+    decimal_split value m.number (unit_name m.unit) m.decimal
+    (name_begins m.unit 45 (omega arith) (omega arith)) (name_begins m.unit 46 (omega arith) (omega arith)) (name_no_digit m.unit) m.written
 
 -- the unit of a name
 unit_from : List ℕ → LengthUnit
@@ -150,7 +155,7 @@ fraction_no_space : (f : Option (List ℕ)) → AllDigits 10 (unwrap_or f []) �
 fraction_no_space None all = tt
 fraction_no_space (Some ds) all = (λ e. omega (arith, e), digits_no_space 10 (omega arith) ds all)
 
-decimal_no_space : (d : Decimal) → IsDecimal d → HasNoSpace (decimal_text d)
+pub decimal_no_space : (d : Decimal) → IsDecimal d → HasNoSpace (decimal_text d)
 decimal_no_space d is =
     no_space-append (sign_text d.negative) (d.whole ++ fraction_text d.fraction) (sign_no_space d.negative)
     (no_space-append d.whole (fraction_text d.fraction) (digits_no_space 10 (omega arith) d.whole is.whole) (fraction_no_space d.fraction is.fraction))

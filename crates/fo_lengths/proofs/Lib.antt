@@ -6,3 +6,4 @@ pub mod Readers
 pub mod Runs
 pub mod Values
 pub mod Trims
+pub mod NumberForms

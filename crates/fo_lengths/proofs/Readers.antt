@@ -3,15 +3,14 @@ use Rattle.std.proofs.Common.{◌≡◌, ℕ, List, Option, Some, None, Result, 
 use Rattle.std.proofs.lemmas.Bool.{false≢true}
 use Rattle.std.specs.Option.{IfSome, ok_or}
 use Rattle.std.specs.Result.{IsErr, is_err}
-use Rattle.fo_lengths.specs.Padding.{IsPadded}
-use Rattle.fo_lengths.specs.Scan.{IsTrimmed}
+use Rattle.fo_lengths.specs.Padding.{IsPadded, IsTrimmed}
 use Rattle.fo_lengths.proofs.Edges.{IsTight, values_same}
 
 -- what a text is by the grammar R of values
 abbrev pub Padded : {V : Type 0} → (List ℕ → V → Type 0) → List ℕ → V → Type 0
 Padded R text v = (value : List ℕ) × IsPadded text value × R value v
 
-trimmed_tight : (text value : List ℕ) → IsTrimmed text value → IsTight value
+pub trimmed_tight : (text value : List ℕ) → IsTrimmed text value → IsTight value
 trimmed_tight text value t = record { start = t.start; end = t.end }
 
 -- no value of R has a space at its ends
@@ -41,3 +40,7 @@ read_bad R error tight text value t (Some w) found only r e =
 pub one_value : {V : Type 0} (R : List ℕ → V → Type 0) → AreTight R → ((value : List ℕ) (a b : V) → R value a → R value b → a ≡ b) → (text : List ℕ) (a b : V) → Padded R text a → Padded R text b → a ≡ b
 one_value R tight one text a b (x, padded_x, is_a) (y, padded_y, is_b) =
     one y a b (subst (λ z. R z a) (values_same text x y padded_x (tight x a is_a) padded_y (tight y b is_b)) is_a) is_b
+
+-- a text is trimmed to one value
+pub trimmed_one : (text a b : List ℕ) → IsTrimmed text a → IsTrimmed text b → a ≡ b
+trimmed_one text a b t u = values_same text a b t.padded (trimmed_tight text a t) u.padded (trimmed_tight text b u)

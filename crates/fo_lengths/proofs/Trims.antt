@@ -7,8 +7,8 @@ use Rattle.std.specs.Str.Pattern.{HasCharAt, FindsCharPrefix, FindsCharSuffix, C
 use Rattle.std.proofs.lemmas.Str.{inside_one, length-encode}
 use Rattle.std.proofs.lemmas.Str.Pattern.{drop_at_char}
 use lib.Utf8
-use Rattle.fo_lengths.specs.Padding.{AreSpaces}
-use Rattle.fo_lengths.specs.Scan.{BeginsWithout, IsTrimmed}
+use Rattle.fo_lengths.specs.Padding.{AreSpaces, IsTrimmed}
+use Rattle.fo_lengths.specs.Scan.{BeginsWithout}
 use Rattle.fo_lengths.proofs.Edges.{EndsWithoutSpace, spaces-append}
 
 front_cut : (ns s m : List ℕ) → CutsPrefixes (FindsCharPrefix 32) s ns m → (before : List ℕ) × AreSpaces before × (s ≡ before ++ m)

@@ -1,7 +1,7 @@
--- Decimal numbers, as lengths are written with them. The form is that of a number of XSL 1.1, 5.9.11, behind
+-- Decimal numbers, which stand alone or as the number of a length. The form is that of a number of XSL 1.1, 5.9.11, behind
 -- a minus sign where it is negative; the bound of six digits on either side of the point is this project's
 -- own.
-use Rattle.std.specs.Prelude.{ℕ, ◌+◌, ◌-◌, ◌*◌, ◌^◌, ◌≤◌, Bool, true, false, List, [], ◌++◌, length, Option, None, Some, unwrap_or}
+use Rattle.std.specs.Prelude.{ℕ, ◌+◌, ◌-◌, ◌*◌, ◌^◌, ◌≤◌, Bool, true, false, ℤ, pos, neg_ℤ, List, [], ◌++◌, length, Option, None, Some, unwrap_or}
 use Rattle.std.specs.Str.Parse.{AllDigits, digits_value}
 use lib.Chars.{codes}
 
@@ -38,3 +38,8 @@ pub record IsDecimal (d : Decimal) : Type 0 where
 -- the size of the number, its sign aside, in millionths: exact, since there are at most six digits behind the point
 abbrev pub millionths : Decimal → ℕ
 millionths d = digits_value 10 d.whole * 10 ^ 6 + digits_value 10 (fraction_digits d) * 10 ^ (6 - length (fraction_digits d))
+
+-- the number of that size, below 0 behind a minus sign
+abbrev pub signed : Bool → ℕ → ℤ
+signed true size = neg_ℤ (pos size)
+signed false size = pos size

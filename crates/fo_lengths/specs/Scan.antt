@@ -1,17 +1,10 @@
--- What the parts of the readers say of a text: how far a run of digits or of spaces goes.
+-- What the parts of the readers say of a text: how far a run of digits goes.
 use Rattle.std.specs.Prelude.{◌≡◌, ◌≢◌, ℕ, ◌≤◌, false, List, [], ◌∷◌, ◌++◌, None, option_map}
 use Rattle.std.specs.Char.{digit_value}
 use Rattle.std.specs.Str.Parse.{AllDigits}
-use Rattle.fo_lengths.specs.Padding.{IsPadded}
 use Rattle.fo_lengths.specs.DecimalNumber.{Decimal, decimal_text, fraction_digits}
 use Rattle.fo_lengths.specs.ColorValue.{IsChannel}
 use Rattle.fo_lengths.specs.declared.decimal.DecimalText.{DecimalText}
-
--- the value is the text without the spaces at its ends, all of them
-pub record IsTrimmed (text value : List ℕ) : Type 0 where
-  pub padded : IsPadded text value
-  pub start : (rest : List ℕ) → value ≢ 32 ∷ rest
-  pub end : (front : List ℕ) → value ≢ front ++ (32 ∷ [])
 
 -- the text does not begin with that byte
 abbrev pub BeginsWithout : ℕ → List ℕ → Type 0

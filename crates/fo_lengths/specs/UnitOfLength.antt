@@ -1,7 +1,8 @@
 -- Units of length, and what so many of a unit are. The names are those of XSL 1.1, 5.9.6 and 5.9.7, the
 -- ratios those of 5.9.13: 1in is 72pt, 1pc is 12pt, 1in is 2.54cm, 1cm is 10mm.
-use Rattle.std.specs.Prelude.{ℕ, ◌*◌, ◌/◌, Bool, true, false, ℤ, pos, neg_ℤ, List}
+use Rattle.std.specs.Prelude.{ℕ, ◌*◌, ◌/◌, Bool, List}
 use lib.Chars.{codes}
+use Rattle.fo_lengths.specs.DecimalNumber.{signed}
 use Rattle.fo_lengths.specs.declared.unit.LengthUnit.{LengthUnit}
 use Rattle.fo_lengths.specs.declared.unit.LengthUnit.TheVariants.{Point, Pica, Inch, Centimetre, Millimetre, Em, Percent}
 use Rattle.fo_lengths.specs.declared.lengths.Length.{Length}
@@ -15,11 +16,6 @@ unit_name Centimetre = codes "cm"
 unit_name Millimetre = codes "mm"
 unit_name Em = codes "em"
 unit_name Percent = codes "%"
-
--- the number of that size, below 0 behind a minus sign
-abbrev pub signed : Bool → ℕ → ℤ
-signed true size = neg_ℤ (pos size)
-signed false size = pos size
 
 -- So many millionths of a unit. Points are in whole millipoints, the exact product truncated toward zero;
 -- Em and Percent stay in millionths. A centimetre is 72 / 2.54 pt, a millimetre 72 / 25.4 pt.

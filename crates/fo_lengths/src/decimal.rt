@@ -1,7 +1,7 @@
-ghost use Rattle.std.specs.Prelude.{◌≡◌, ◌++◌, false, [], IfNone, option_map, unwrap_or};
+ghost use Rattle.std.specs.Prelude.{◌≡◌, ◌<◌, ◌^◌, ◌++◌, false, [], IfNone, option_map, unwrap_or};
 ghost use Rattle.std.specs.Option.{SomeIff};
 ghost use Rattle.std.specs.Str.Parse.{AllDigits};
-ghost use Rattle.fo_lengths.specs.DecimalNumber.{sign_text, fraction_text, IsDecimal, fraction_digits, millionths};
+ghost use Rattle.fo_lengths.specs.DecimalNumber.{sign_text, fraction_text, IsDecimal, fraction_digits, millionths, signed};
 ghost use Rattle.fo_lengths.specs.Scan.{BeginsWithout, BeginsWithNoDigit, IsSplitBehindDecimal, decimal_of};
 
 use crate::scan::{digits_number, split_digits};
@@ -85,4 +85,13 @@ fn split_fraction(text: &str) -> (Option<&str>, &str)
         }
         None => (None, text),
     }
+}
+
+/// The number of that size, below 0 where it is told.
+pub fn with_sign(is_negative: bool, size: u64) -> i64
+    requires { size < 2 ^ 63 }
+    ensures { result ≡ signed is_negative size }
+{
+    let number = size as i64;
+    if is_negative { -number } else { number }
 }

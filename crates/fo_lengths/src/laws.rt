@@ -1,15 +1,20 @@
-ghost use Rattle.std.specs.Prelude.{◌≡◌, ℕ, ◌*◌, Bool, List};
+ghost use Rattle.std.specs.Prelude.{◌≡◌, ℕ, ℤ, ◌*◌, Bool, List};
 ghost use Rattle.fo_lengths.specs.ColorValue.{IsColor};
 ghost use Rattle.fo_lengths.specs.LengthValue.{IsLength};
+ghost use Rattle.fo_lengths.specs.NumberValue.{IsNumber};
+ghost use Rattle.fo_lengths.specs.Padding.{IsTrimmed};
 ghost use Rattle.fo_lengths.specs.UnitOfLength.{length_in};
 ghost use Rattle.fo_lengths.specs.WholeNumber.{IsWhole};
 ghost use Rattle.fo_lengths.specs.declared.lengths.Length.{Length};
 ghost use Rattle.fo_lengths.specs.declared.unit.LengthUnit.TheVariants.{Point, Pica, Inch, Centimetre, Millimetre};
 
-/// A text is at most one length, at most one colour and at most one whole number.
+/// A text is at most one length, at most one colour, at most one number and at most one whole number, and it is
+/// trimmed to one value.
 pub fn at_most_one_value()
     ensures length { (text : List ℕ) (a b : Length) → IsLength text a → IsLength text b → a ≡ b }
     ensures color { (text : List ℕ) (a b : ℕ) → IsColor text a → IsColor text b → a ≡ b }
+    ensures number { (text : List ℕ) (a b : ℤ) → IsNumber text a → IsNumber text b → a ≡ b }
+    ensures trimmed { (text a b : List ℕ) → IsTrimmed text a → IsTrimmed text b → a ≡ b }
     ensures whole { (text : List ℕ) (a b : ℕ) → IsWhole text a → IsWhole text b → a ≡ b }
 {}
 

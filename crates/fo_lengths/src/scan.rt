@@ -1,9 +1,10 @@
 // What the readers share: spaces at the ends of a text, and runs of digits.
 ghost use Rattle.std.specs.Prelude.{◌≡◌, ◌≤◌, length};
 ghost use Rattle.std.specs.Str.Parse.{AllDigits, digits_value};
-ghost use Rattle.fo_lengths.specs.Scan.{IsTrimmed, IsSplitBehindDigits};
+ghost use Rattle.fo_lengths.specs.Scan.{IsSplitBehindDigits};
+ghost use Rattle.fo_lengths.specs.Padding.{IsTrimmed};
 
-/// The text without the spaces (U+0020) at its ends.
+/// The text without the spaces (U+0020) at its ends, all of them. Other white space stays.
 pub fn trimmed(text: &str) -> &str
     ensures { IsTrimmed text.now result.now }
 {

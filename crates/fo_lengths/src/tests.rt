@@ -1,4 +1,4 @@
-use crate::{BadValue, Length, read_color, read_length, read_whole};
+use crate::{BadValue, Length, read_color, read_length, read_number, read_whole, trimmed};
 
 #[test]
 fn reads_lengths(rt: HostRuntime) {
@@ -137,4 +137,34 @@ fn reads_whole_numbers(rt: HostRuntime) {
     ] {
         assert_eq!(rt; read_whole(text), Err(BadValue), "at {text}");
     }
+}
+
+/// Numbers in millionths, from the form of XSL 1.1, 5.9.11, with a minus sign.
+const NUMBERS: &[(&str, Result<i64, BadValue>)] = &[
+    ("1.5", Ok(1_500_000)),
+    (" -2 ", Ok(-2_000_000)),
+    (".000001", Ok(1)),
+    ("7.", Ok(7_000_000)),
+    ("-0", Ok(0)),
+    ("999999.999999", Ok(999_999_999_999)),
+    ("", Err(BadValue)),
+    (".", Err(BadValue)),
+    ("+1", Err(BadValue)),
+    ("1pt", Err(BadValue)),
+    ("1.0000001", Err(BadValue)),
+    ("1000000", Err(BadValue)),
+];
+
+#[test]
+fn reads_numbers(rt: HostRuntime) {
+    for (text, number) in NUMBERS {
+        assert_eq!(rt; read_number(text), *number, "at {text}");
+    }
+}
+
+#[test]
+fn trims_spaces_alone(rt: HostRuntime) {
+    assert_eq!(rt; trimmed("  a b "), "a b");
+    assert_eq!(rt; trimmed("\ta "), "\ta");
+    assert_eq!(rt; trimmed("   "), "");
 }

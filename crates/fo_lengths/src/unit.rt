@@ -1,7 +1,9 @@
 ghost use Rattle.std.specs.Prelude.{◌≡◌, ◌≢◌, ◌<◌, ◌^◌, ◌*◌, ◌/◌, IfSome, IfNone};
-ghost use Rattle.fo_lengths.specs.UnitOfLength.{unit_name, length_in, signed};
+ghost use Rattle.fo_lengths.specs.UnitOfLength.{unit_name, length_in};
+ghost use Rattle.fo_lengths.specs.DecimalNumber.{signed};
 ghost use Rattle.fo_lengths.specs.declared.unit.LengthUnit.{LengthUnit};
 
+use crate::decimal::with_sign;
 use crate::lengths::Length;
 
 /// A unit that a length may have: those of XSL but `px`, and the per cent.
@@ -75,13 +77,4 @@ fn millipoints(millionths: u64, points: u64, units: u64) -> u64
     ensures { result ≡ millionths * points / (units * 1000) }
 {
     millionths * points / (units * 1000)
-}
-
-/// The number of that size, below 0 where it is told.
-fn with_sign(is_negative: bool, size: u64) -> i64
-    requires { size < 2 ^ 63 }
-    ensures { result ≡ signed is_negative size }
-{
-    let number = size as i64;
-    if is_negative { -number } else { number }
 }

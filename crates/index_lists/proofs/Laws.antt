@@ -60,7 +60,7 @@ owner_reserved s l p sound own = elim (cases_lt l (length s.lists)) [
       omega (arith, one, none))
 ]
 
-both_parts : (x y : Option ℕ) (l r : ℕ) → both x y ≡ Some (l, r) → (x ≡ Some l) × (y ≡ Some r)
+pub both_parts : (x y : Option ℕ) (l r : ℕ) → both x y ≡ Some (l, r) → (x ≡ Some l) × (y ≡ Some r)
 both_parts None y l r e = absurd (cc)
 both_parts (Some k) None l r e = absurd (cc)
 both_parts (Some k) (Some m) l r e =

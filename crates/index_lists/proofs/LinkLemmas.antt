@@ -1,5 +1,5 @@
 -- What sound links say of the side that they make.
-use Rattle.std.proofs.Common.{◌≡◌, ◌≢◌, ℕ, zero, suc, ◌<◌, ◌≤◌, List, [], ◌∷◌, ◌++◌, map, length, get_or, take, replicate, Option, Some, None, inl, inr, refl, sym, ap, ◌∙◌, subst, le_of_eq, length-append, take_all, arith}
+use Rattle.std.proofs.Common.{◌≡◌, ℕ, zero, suc, ◌<◌, ◌≤◌, List, [], ◌∷◌, ◌++◌, map, length, get_or, take, replicate, Option, Some, None, inl, inr, refl, sym, ap, ◌∙◌, subst, le_of_eq, length-append, take_all, arith}
 use Rattle.std.specs.Prelude.{IsSome, IfSome}
 use Rattle.std.proofs.lemmas.Bool.{cases_eq, cases_lt, eq-eqb, ne_eqb}
 use Rattle.std.proofs.lemmas.List.{get_or_past, get_or_read, length-map}
@@ -9,7 +9,7 @@ use Rattle.index_lists.specs.declared.links.Links.{Links}
 use Rattle.index_lists.specs.Lists.{times, without, first_of, place_after}
 use Rattle.index_lists.specs.Side.{Side, list_at, owner_at, IsSound, Appends, TakesOut, Extends}
 use Rattle.index_lists.specs.Rings.{Spot, edge, inner, spot, walk, SetsAt, IsOnRing, Leads, IsLinked}
-use Rattle.index_lists.specs.Links.{unlinked, no_ends, link_at, ends_at, owner_of, place_count, list_count, after_at, before_at, places_from, side_of, IsChained}
+use Rattle.index_lists.specs.Links.{unlinked, no_ends, link_at, ends_at, owner_of, place_count, list_count, after_at, before_at, places_from, side_of, IsChained, IsCounted, SetsOwner}
 use Rattle.index_lists.proofs.Times.{times_there}
 use Rattle.index_lists.proofs.RingLemmas.{due, once_own, own_within, next_on, last_of, before_of, linked_walk}
 use Rattle.index_lists.proofs.RingChanges.{put, put_same, put_other, linked_as, linked_push, linked_without, linked_more}
@@ -125,20 +125,25 @@ pub record Joins (old new : Links) (l : ℕ) (before after : Option ℕ) : Type 
   pub place_count : place_count new ≡ place_count old
   pub list_count : list_count new ≡ list_count old
 
--- where a new owner of a place leaves the links
-pub record SetsOwner (old new : Links) (p : ℕ) (list : Option ℕ) : Type 0 where
-  pub owner : owner_of new p ≡ list
-  pub other_owners : (q : ℕ) → q ≢ p → owner_of new q ≡ owner_of old q
-  pub forward : (t : Spot) → after_at new t ≡ after_at old t
-  pub back : (t : Spot) → before_at new t ≡ before_at old t
-  pub place_count : place_count new ≡ place_count old
-  pub list_count : list_count new ≡ list_count old
+-- what is joined, and what owns a place, may be written otherwise
+pub joins_as : (k k' : Links) (l : ℕ) (b a b' a' : Option ℕ) → b ≡ b' → a ≡ a' → Joins k k' l b a → Joins k k' l b' a'
+joins_as k k' l b a b' a' eb ea joins = subst (λ x. Joins k k' l b' x) ea (subst (λ x. Joins k k' l x a) eb joins)
+
+pub owner_as : (k k' : Links) (p : ℕ) (o o' : Option ℕ) → o ≡ o' → SetsOwner k k' p o → SetsOwner k k' p o'
+owner_as k k' p o o' e owns = subst (λ x. SetsOwner k k' p x) e owns
 
 sets_as : (f g h : Spot → Option ℕ) (s : Spot) (v : Option ℕ) → SetsAt f g s v → ((t : Spot) → h t ≡ g t) → SetsAt f h s v
 sets_as f g h s v set same = record { at = same s ∙ set.at; others = λ t ne. same t ∙ set.others t ne }
 
 side_counts : (k : Links) → (length (side_of k).owners ≡ place_count k) × (length (side_of k).lists ≡ list_count k)
 side_counts k = (length-map k.places.items (λ (link : Link). link.list), length-map k.ends.items (places_from k))
+
+-- the links after a push
+pub record Pushed (k k' : Links) (l p : ℕ) : Type 0 where
+  pub chained : IsChained k'
+  pub appends : Appends (side_of k) (side_of k') l p
+  pub place_count : place_count k' ≡ place_count k
+  pub list_count : list_count k' ≡ list_count k
 
 module _ (k k1 k2 k3 : Links) (l p : ℕ) (sound : IsChained k) (within : l < list_count k) (free : owner_at (side_of k) p ≡ None)
     (first : Joins k k1 l (ends_at k l).last (Some p)) (second : Joins k1 k2 l (Some p) None) (owned : SetsOwner k2 k3 p (Some l)) where
@@ -161,10 +166,10 @@ module _ (k k1 k2 k3 : Links) (l p : ℕ) (sound : IsChained k) (within : l < li
       first.back (sets_as (before_at k1) (before_at k2) (before_at k3) (edge l) (Some p) second.back owned.back)
       owned.owner pushed_others)
 
-  pub pushed_chained : IsChained k3
+  pushed_chained : IsChained k3
   pushed_chained = chained k3 pushed_lists pushed_linked
 
-  pub pushed_appends : Appends (side_of k) (side_of k3) l p
+  pushed_appends : Appends (side_of k) (side_of k3) l p
   unfolding pushed_lists
   pushed_appends = record {
     end = lists_of_side k3 pushed_lists pushed_linked l ∙ put_same (λ l. list_at (side_of k) l) l (list_at (side_of k) l ++ p ∷ []);
@@ -174,6 +179,9 @@ module _ (k k1 k2 k3 : Links) (l p : ℕ) (sound : IsChained k) (within : l < li
     place_count = (side_counts k3).0 ∙ pushed_counts.0 ∙ sym (side_counts k).0;
     list_count = (side_counts k3).1 ∙ pushed_counts.1 ∙ sym (side_counts k).1;
   }
+
+  pub pushed : Pushed k k3 l p
+  pushed = record { chained = pushed_chained; appends = pushed_appends; place_count = pushed_counts.0; list_count = pushed_counts.1 }
 
 -- ---- a place taken out
 
@@ -187,6 +195,13 @@ before_within k l p q sound own e =
 
 pub after_within : (k : Links) (l p q : ℕ) → IsChained k → owner_of k p ≡ Some l → (link_at k p).after ≡ Some q → q < place_count k
 after_within k l p q sound own e = owned_within k q l (next-on k l p q sound own e)
+
+-- the links after a place was taken out
+pub record TakenOut (k k' : Links) (l p : ℕ) : Type 0 where
+  pub chained : IsChained k'
+  pub takes_out : TakesOut (side_of k) (side_of k') l p
+  pub place_count : place_count k' ≡ place_count k
+  pub list_count : list_count k' ≡ list_count k
 
 module _ (k k1 k2 : Links) (l p : ℕ) (sound : IsChained k) (own : owner_of k p ≡ Some l)
     (joined : Joins k k1 l (link_at k p).before (link_at k p).after) (freed : SetsOwner k1 k2 p None) where
@@ -206,10 +221,10 @@ module _ (k k1 k2 : Links) (l p : ℕ) (sound : IsChained k) (own : owner_of k p
       (after_at k1) (before_at k1) (after_at k2) (before_at k2) (owner_of k2)
       joined.forward (λ t ne. freed.forward t) joined.back (λ t ne. freed.back t) freed.owner out_others)
 
-  pub out_chained : IsChained k2
+  out_chained : IsChained k2
   out_chained = chained k2 out_lists out_linked
 
-  pub out_takes : TakesOut (side_of k) (side_of k2) l p
+  out_takes : TakesOut (side_of k) (side_of k2) l p
   unfolding out_lists
   out_takes = record {
     rest = lists_of_side k2 out_lists out_linked l ∙ put_same (λ l. list_at (side_of k) l) l (without p (list_at (side_of k) l));
@@ -219,6 +234,9 @@ module _ (k k1 k2 : Links) (l p : ℕ) (sound : IsChained k) (own : owner_of k p
     place_count = (side_counts k2).0 ∙ out_counts.0 ∙ sym (side_counts k).0;
     list_count = (side_counts k2).1 ∙ out_counts.1 ∙ sym (side_counts k).1;
   }
+
+  pub taken_out : TakenOut k k2 l p
+  taken_out = record { chained = out_chained; takes_out = out_takes; place_count = out_counts.0; list_count = out_counts.1 }
 
 -- ---- more places and more lists
 
@@ -264,6 +282,11 @@ module _ (k k' : Links) (sound : IsChained k)
     place_count = rw ((side_counts k).0, (side_counts k').0) more_places;
     list_count = rw ((side_counts k).1, (side_counts k').1) more_lists;
   }
+
+-- ---- the numbers fit where they did
+
+pub counted_as : (k k' : Links) → place_count k' ≡ place_count k → list_count k' ≡ list_count k → IsCounted k → IsCounted k'
+counted_as k k' places lists counted = (rw places counted.0, rw lists counted.1)
 
 -- ---- from a value to the links that make it
 
@@ -321,16 +344,16 @@ places_kept k k' ends places = record {
   list_count = le_of_eq (ap length (sym ends));
 }
 
-pub places_resized : (k k' : Links) (n m : ℕ) → k'.ends.items ≡ k.ends.items → k'.places.items ≡ take n k.places.items ++ replicate m unlinked → place_count k ≤ n → SameLinks k k'
-places_resized k k' n m ends places fits = record {
+pub places_resized : (k k' : Links) (n m : ℕ) (x : Link) → k'.ends.items ≡ k.ends.items → k'.places.items ≡ take n k.places.items ++ replicate m x → x ≡ unlinked → place_count k ≤ n → SameLinks k k'
+places_resized k k' n m x ends resized none fits = let places : k'.places.items ≡ take n k.places.items ++ replicate m unlinked = subst (λ y. k'.places.items ≡ take n k.places.items ++ replicate m y) none resized in record {
   links = λ p. ap (λ xs. get_or xs p unlinked) places ∙ at_resized k.places.items n m p unlinked fits;
   ends = λ l. ap (λ xs. get_or xs l no_ends) ends;
   place_count = subst (λ xs. place_count k ≤ length xs) (sym places) (length_resized k.places.items n m unlinked fits);
   list_count = le_of_eq (ap length (sym ends));
 }
 
-pub ends_resized : (k k' : Links) (n m : ℕ) → k'.places.items ≡ k.places.items → k'.ends.items ≡ take n k.ends.items ++ replicate m no_ends → list_count k ≤ n → SameLinks k k'
-ends_resized k k' n m places ends fits = record {
+pub ends_resized : (k k' : Links) (n m : ℕ) (x : Ends) → k'.places.items ≡ k.places.items → k'.ends.items ≡ take n k.ends.items ++ replicate m x → x ≡ no_ends → list_count k ≤ n → SameLinks k k'
+ends_resized k k' n m x places resized none fits = let ends : k'.ends.items ≡ take n k.ends.items ++ replicate m no_ends = subst (λ y. k'.ends.items ≡ take n k.ends.items ++ replicate m y) none resized in record {
   links = λ p. ap (λ xs. get_or xs p unlinked) places;
   ends = λ l. ap (λ xs. get_or xs l no_ends) ends ∙ at_resized k.ends.items n m l no_ends fits;
   place_count = le_of_eq (ap length (sym places));

@@ -1,5 +1,5 @@
 -- How the links of one side say its lists. Only this crate's own code speaks of links.
-use Rattle.std.specs.Prelude.{ℕ, List, map, length, Option, None, slice_index_or}
+use Rattle.std.specs.Prelude.{◌≡◌, ◌≢◌, ℕ, ◌<◌, ◌^◌, List, map, length, Option, None, slice_index_or}
 use Rattle.index_lists.specs.declared.links.Link.{Link}
 use Rattle.index_lists.specs.declared.links.Ends.{Ends}
 use Rattle.index_lists.specs.declared.links.Links.{Links}
@@ -50,3 +50,16 @@ side_of k = record { lists = map (places_from k) k.ends.items; owners = map (λ 
 -- the invariant of one side
 abbrev pub IsChained : Links → Type 0
 IsChained k = IsLinked (after_at k) (before_at k) (owner_of k) (λ l. list_at (side_of k) l) (list_count k)
+
+-- places and lists have numbers that an index can hold
+abbrev pub IsCounted : Links → Type 0
+IsCounted k = (place_count k < 2 ^ 32) × (list_count k < 2 ^ 32)
+
+-- where a new owner of a place leaves the links
+pub record SetsOwner (old new : Links) (p : ℕ) (list : Option ℕ) : Type 0 where
+  pub owner : owner_of new p ≡ list
+  pub other_owners : (q : ℕ) → q ≢ p → owner_of new q ≡ owner_of old q
+  pub forward : (t : Spot) → after_at new t ≡ after_at old t
+  pub back : (t : Spot) → before_at new t ≡ before_at old t
+  pub place_count : place_count new ≡ place_count old
+  pub list_count : list_count new ≡ list_count old

@@ -1,5 +1,5 @@
 -- Words on the places of a list, which are numbers. This project's own.
-use Rattle.std.specs.Prelude.{ℕ, ◌+◌, ◌<◌, ◌≤◌, not, List, [], ◌∷◌, Option, Some, None, ◌==◌, if◌then◌else◌}
+use Rattle.std.specs.Prelude.{ℕ, not, List, [], ◌∷◌, Option, Some, None, ◌==◌, if◌then◌else◌}
 use Rattle.std.specs.List.{count_by, filter}
 
 -- how often a place stands in a list
@@ -19,10 +19,3 @@ first_of (x ∷ xs) = Some x
 abbrev pub place_after : ℕ → List ℕ → Option ℕ
 place_after p [] = None
 place_after p (x ∷ xs) = if x == p then first_of xs else place_after p xs
-
--- the new list has places of the old one, and besides these each number from `first` up to `end`
--- once more at most
-pub record Fills (old new : List ℕ) (first end : ℕ) : Type 0 where
-  pub inside : (p : ℕ) → times p new ≤ times p old + 1
-  pub below : (p : ℕ) → p < first → times p new ≤ times p old
-  pub above : (p : ℕ) → end ≤ p → times p new ≤ times p old

@@ -1,7 +1,8 @@
 -- The whole store as contracts see it. This project's own.
-use Rattle.std.specs.Prelude.{◌≡◌, ℕ, ◌≤◌, List, [], Option, Some, None, IsSome, is_some, length}
+use Rattle.std.specs.Prelude.{◌≡◌, ℕ, ◌≤◌, Bool, not, List, [], Option, Some, None, IsSome, is_some, length}
 use Rattle.std.specs.Option.{unwrap_or}
-use Rattle.index_lists.specs.Side.{Side, list_at, owner_at, IsSound}
+use Rattle.std.specs.List.{filter}
+use Rattle.index_lists.specs.Side.{Side, list_at, owner_at, is_in, IsSound}
 
 -- the left lists, the right lists, and how many more items find room
 pub record Woven : Type 0 where
@@ -51,6 +52,14 @@ left_of t p = unwrap_or (owner_at t.left p) 0
 
 abbrev pub right_of : Woven → ℕ → ℕ
 right_of t p = unwrap_or (owner_at t.right p) 0
+
+-- whether the item at place p stands in right list r
+abbrev pub is_right : Woven → ℕ → ℕ → Bool
+is_right t r p = is_in (owner_at t.right p) r
+
+-- those of some places whose items do not stand in right list r, in their order
+abbrev pub outside_right : Woven → ℕ → List ℕ → List ℕ
+outside_right t r places = filter (λ p. not (is_right t r p)) places
 
 -- what holds of every store: a live item stands once in its left list, once in its right list and
 -- in no other list, and a place that is not live stands in none

@@ -1,20 +1,24 @@
 //! Items that stand in two lists at once, linked by index in one arena.
 //!
 //! An item is put at the end of one left list and of one right list, and is taken out of both by the
-//! place that it got. All calls but [`Threads::reserve`] take constant time.
+//! place that it got. Links are four bytes, so that an item takes 28 bytes and a list 8. All calls but
+//! [`Threads::reserve`] and [`Threads::clear_right`] take constant time.
 #![tactic(auto)]
 
-ghost use Rattle.std.specs.Prelude.{◌≡◌, ◌≢◌, ℕ, ◌+◌, ◌<◌, ◌≤◌, ◌++◌, ◌∷◌, [], Option, Some, None, IfSome, OnOk, ◌-◌, vec_len, vec_capacity};
-ghost use Rattle.index_lists.specs.Lists.{without, first_of, place_after, Fills};
+ghost use Rattle.std.specs.Prelude.{◌≡◌, ◌≢◌, ℕ, ◌+◌, ◌<◌, ◌≤◌, ◌++◌, ◌∷◌, [], Option, Some, None, if◌then◌else◌, IfSome, OnOk, length};
+ghost use Rattle.index_lists.specs.Lists.{without, first_of, place_after};
 
+mod index;
 mod links;
+mod pool;
 mod side;
 
+pub use pool::Pool;
 use side::Chains;
 use std::alloc::{AllocError, Global};
 use std::marker::Model;
 
-/// Memory was refused.
+/// Memory was refused, or what was asked for is more than the numbers of places and lists can name.
 pub type NoMemory = std::alloc::AllocError;
 
 /// Items, each in one left list and in one right list at once.
@@ -25,8 +29,8 @@ pub type NoMemory = std::alloc::AllocError;
 pub struct Threads {
     left: Chains,
     right: Chains,
-    /// The places that no live item has, as a stack with room for all places.
-    free: Vec<usize>,
+    /// The places; those that no live item has are free.
+    places: Pool,
 }
 
 impl Model for Threads {
@@ -34,16 +38,16 @@ impl Model for Threads {
 
     ghost Value = { Woven };
 
-    ghost use Rattle.std.specs.Prelude.{vec_len, vec_capacity};
     ghost use Rattle.index_lists.specs.Arena.{IsArena};
+    ghost use Rattle.index_lists.specs.Pool.{spare_of};
 
-    ghost view = { λ t. record { left = t.left; right = t.right; spare = vec_len t.free } };
+    ghost view = { λ t. record { left = t.left; right = t.right; spare = spare_of t.places } };
 
-    ghost invariant = { λ t. IsArena t.left t.right t.free.items (vec_capacity t.free) };
+    ghost invariant = { λ t. IsArena t.left t.right t.places };
 }
 
 impl Threads {
-    ghost use Rattle.index_lists.specs.Threads.{nothing, left_count, right_count, left_list, right_list, item_at, left_of, right_of, IsLive, IsRoomier, IsWoven};
+    ghost use Rattle.index_lists.specs.Threads.{nothing, left_count, right_count, left_list, right_list, item_at, left_of, right_of, is_right, outside_right, IsLive, IsRoomier, IsWoven};
 
     /// No list, no item and no room. It takes no memory.
     pub fn new(alloc: Global) -> Threads
@@ -53,7 +57,7 @@ impl Threads {
         Threads {
             left: Chains::new(alloc),
             right: Chains::new(alloc),
-            free: Vec::new(alloc),
+            places: Pool::new(alloc),
         }
     }
 
@@ -65,7 +69,8 @@ impl Threads {
     ///
     /// # Errors
     ///
-    /// `NoMemory` where memory was refused.
+    /// `NoMemory` where memory was refused, or where there would be more than 4,294,967,295 places or
+    /// lists of one side.
     pub fn reserve(
         &mut self,
         _alloc: Global,
@@ -104,13 +109,11 @@ impl Threads {
         ensures kept { IsRoomier self.old self.new }
         ensures woven { IsWoven self.new }
     {
-        let first = self.right.places();
-        let missing = items.saturating_sub(self.free.len());
-        let places = first.checked_add(missing).ok_or(AllocError)?;
-        self.free.reserve(places.saturating_sub(self.free.len()))?;
-        self.left.grow_places(places)?;
-        self.right.grow_places(places)?;
-        push_places(&mut self.free, first, places)?;
+        let missing = items.saturating_sub(self.places.spare());
+        let count = self.places.count().checked_add(missing).ok_or(AllocError)?;
+        self.left.grow_places(count)?;
+        self.right.grow_places(count)?;
+        self.places.reserve(items)?;
         Ok(())
     }
 
@@ -134,7 +137,7 @@ impl Threads {
         ensures same_rights { right_count self.new ≡ right_count self.old }
         ensures woven { IsWoven self.new }
     {
-        let place = self.free.pop().unwrap();
+        let place = self.places.take();
         self.left.push_back(left, place);
         self.right.push_back(right, place);
         place
@@ -161,9 +164,29 @@ impl Threads {
     {
         let left = self.left.unlink(place);
         let right = self.right.unlink(place);
-        // There is room for every place, so this push can't fail.
-        let _ = self.free.push(place);
+        self.places.give_back(place);
         (left, right)
+    }
+
+    /// Takes every item of a right list out of both its lists. It takes no memory, and time by the
+    /// number of these items.
+    pub fn clear_right(&mut self, right: usize)
+        requires { right < right_count self.old }
+
+        ensures empty { right_list self.new right ≡ [] }
+        ensures left_lists { (list : ℕ) → left_list self.new list ≡ outside_right self.old right (left_list self.old list) }
+        ensures items { (place : ℕ) → item_at self.new place ≡ (if is_right self.old right place then None else item_at self.old place) }
+        ensures spare { self.new.spare ≡ self.old.spare + length (right_list self.old right) }
+
+        // Every other right list stays, and so do the numbers of lists.
+        ensures other_right_lists { (list : ℕ) → list ≢ right → right_list self.new list ≡ right_list self.old list }
+        ensures same_lefts { left_count self.new ≡ left_count self.old }
+        ensures same_rights { right_count self.new ≡ right_count self.old }
+        ensures woven { IsWoven self.new }
+    {
+        while let Some(place) = self.first_right(right) {
+            self.remove(place);
+        }
     }
 
     /// The first place of a left list; `None` where the list is empty.
@@ -218,20 +241,6 @@ impl Threads {
     {
         (self.left.list_of(place), self.right.list_of(place))
     }
-}
-
-/// Adds the places from `first` up to `end`, and without it, to the free ones.
-fn push_places(free: &mut Vec<usize>, first: usize, end: usize) -> Result<(), AllocError>
-    requires { first ≤ end }
-    ensures all { OnOk result (vec_len free.new ≡ vec_len free.old + (end - first)) }
-    ensures more { vec_len free.old ≤ vec_len free.new }
-    ensures capacity { vec_capacity free.old ≤ vec_capacity free.new }
-    ensures fills { Fills free.old.items free.new.items first end }
-{
-    for place in first..end {
-        free.push(place)?;
-    }
-    Ok(())
 }
 
 #[cfg(test)]

@@ -3,6 +3,7 @@
 ghost use Rattle.std.specs.Prelude.{◌≡◌, ◌≢◌, ℕ, ◌<◌, ◌≤◌, ◌++◌, ◌∷◌, [], max, length, Option, Some, None, IsSome, IfSome, OnOk, OnErr};
 ghost use Rattle.index_lists.specs.Lists.{without, first_of, place_after};
 
+use crate::index::{Index, NUMBERS};
 use crate::links::{Ends, Link, Links};
 use std::alloc::{AllocError, Global};
 use std::marker::Model;
@@ -19,11 +20,11 @@ impl Model for Chains {
 
     ghost Value = { Side };
 
-    ghost use Rattle.index_lists.specs.Links.{side_of, IsChained};
+    ghost use Rattle.index_lists.specs.Links.{side_of, IsChained, IsCounted};
 
     ghost view = { λ c. side_of c.links };
 
-    ghost invariant = { λ c. IsChained c.links };
+    ghost invariant = { λ c. IsChained c.links × IsCounted c.links };
 }
 
 impl Chains {
@@ -56,7 +57,10 @@ impl Chains {
         ensures sound { IsSound self.new }
     {
         let places = places.max(self.links.places.len());
-        self.links.places.resize(places, Link::NONE)?;
+        if places > NUMBERS {
+            return Err(AllocError);
+        }
+        self.links.places.resize(places, Link::none())?;
         Ok(())
     }
 
@@ -69,7 +73,10 @@ impl Chains {
         ensures sound { IsSound self.new }
     {
         let lists = lists.max(self.links.ends.len());
-        self.links.ends.resize(lists, Ends::NONE)?;
+        if lists > NUMBERS {
+            return Err(AllocError);
+        }
+        self.links.ends.resize(lists, Ends::none())?;
         Ok(())
     }
 
@@ -78,7 +85,7 @@ impl Chains {
         requires { IsSome (owner_at self.now place) }
         ensures { owner_at self.now place ≡ Some result }
     {
-        self.links.places[place].list.unwrap()
+        self.links.places[place].list.get().unwrap()
     }
 
     /// The first place of a list.
@@ -87,7 +94,7 @@ impl Chains {
         ensures first { result ≡ first_of (list_at self.now list) }
         ensures owner { IfSome result (λ place. owner_at self.now place ≡ Some list) }
     {
-        self.links.ends[list].first
+        self.links.ends[list].first.get()
     }
 
     /// The place after a linked place in its list.
@@ -96,7 +103,7 @@ impl Chains {
         ensures next { IfSome (owner_at self.now place) (λ list. result ≡ place_after place (list_at self.now list)) }
         ensures owner { IfSome result (λ next. owner_at self.now next ≡ owner_at self.now place) }
     {
-        self.links.places[place].after
+        self.links.places[place].after.get()
     }
 
     /// Puts a place that stands in no list at the end of a list.
@@ -109,10 +116,10 @@ impl Chains {
         ensures sound { IsSound self.new }
     {
         // The place goes between the last one and the edge of the list.
-        let (before, after) = (self.links.ends[list].last, None);
-        self.links.join(list, before, Some(place));
-        self.links.join(list, Some(place), after);
-        self.links.set_owner(place, Some(list));
+        let (before, after) = (self.links.ends[list].last, Index::none());
+        self.links.join(list, before, Index::of(place));
+        self.links.join(list, Index::of(place), after);
+        self.links.set_owner(place, Index::of(list));
     }
 
     /// Takes a linked place out of its list, and answers that list.
@@ -124,9 +131,9 @@ impl Chains {
         ensures sound { IsSound self.new }
     {
         let link = self.links.places[place];
-        let list = link.list.unwrap();
+        let list = link.list.get().unwrap();
         self.links.join(list, link.before, link.after);
-        self.links.set_owner(place, None);
+        self.links.set_owner(place, Index::none());
         list
     }
 }

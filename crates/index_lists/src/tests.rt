@@ -28,6 +28,24 @@ fn items_stand_in_both_lists(rt: HostRuntime) -> Result<(), Fail> {
     assert_ne!(rt; d, c);
     assert_eq!(rt; threads.next_left(c), Some(d));
     assert_eq!(rt; threads.next_right(b), Some(d));
+
+    threads.clear_right(1);
+    assert_eq!(rt; threads.first_right(1), None);
+    assert_eq!(rt; threads.first_left(0), None);
+    assert_eq!(rt; threads.first_left(1), Some(c));
+    Ok(())
+}
+
+#[test]
+fn a_number_is_given_again(rt: HostRuntime) -> Result<(), Fail> {
+    let mut pool = Pool::new(rt.alloc());
+    pool.reserve(2)?;
+    assert_eq!(rt; pool.count(), 2);
+    let number = pool.take();
+    pool.give_back(number);
+    assert_eq!(rt; pool.take(), number);
+    assert_ne!(rt; pool.take(), number);
+    assert_eq!(rt; pool.spare(), 0);
     Ok(())
 }
 

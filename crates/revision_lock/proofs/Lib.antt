@@ -4,3 +4,4 @@ pub mod Rules
 pub mod Steps
 pub mod Passing
 pub mod Crossing
+pub mod Selection

@@ -1,11 +1,12 @@
 -- Sums over a list, beginnings of lists, and a function with one value changed.
-use Rattle.std.proofs.Common.{◌≡◌, ◌≢◌, ◌⊎◌, ℕ, zero, suc, ◌+◌, ◌<◌, ◌≤◌, Bool, true, false, List, [], ◌∷◌, ◌++◌, length, set, sum_by, eqb, nat_eq, nat_lt, eq-eqb, ne_eqb, lt-ltb, le-ltb, if◌then◌else◌, refl, sym, ap, subst, ◌∙◌, inl, inr, arith, append_assoc, length-append}
+use Rattle.std.proofs.Common.{◌≡◌, ◌≢◌, ◌⊎◌, ℕ, zero, suc, ◌+◌, ◌<◌, ◌≤◌, Bool, true, false, List, [], ◌∷◌, ◌++◌, length, set, sum_by, nat_eq, nat_lt, eq-eqb, ne_eqb, lt-ltb, le-ltb, if◌then◌else◌, refl, sym, ap, subst, ◌∙◌, inl, inr, ⊎_elim, arith, append_assoc}
+use Rattle.std.proofs.lemmas.Bool.{cases_lt}
 use Rattle.std.proofs.lemmas.List.{append-nil}
 use Rattle.std.proofs.lemmas.List.Sums.{sum_by-cons}
 use mathlib.Core.Option.{some, some-ne-none, some-injective}
 use mathlib.Core.List.{IsPrefix}
 use lib.ListN.{get_elem?}
-use Rattle.revision_lock.specs.Histories.{longer}
+use Rattle.revision_lock.specs.Histories.{longer, shorter}
 
 module _ {X : Type 0} where
   pub sum_set : (f : X → ℕ) (xs : List X) (i : ℕ) (v w : X) → get_elem? xs i ≡ some v → sum_by f (set xs i w) + f v ≡ sum_by f xs + f w
@@ -59,7 +60,7 @@ module _ {X : Type 0} where
   at_grown [] x u zero at = inr (refl, some-injective x u at)
   at_grown [] x u (suc i) at = absurd (some-ne-none u (sym at))
   at_grown (y ∷ xs) x u zero at = inl at
-  at_grown (y ∷ xs) x u (suc i) at = Rattle.std.proofs.Common.⊎_elim (λ h. inl h) (λ (h : (i ≡ length xs) × (x ≡ u)). inr (ap suc h.0, h.1)) (at_grown xs x u i at)
+  at_grown (y ∷ xs) x u (suc i) at = ⊎_elim (λ h. inl h) (λ (h : (i ≡ length xs) × (x ≡ u)). inr (ap suc h.0, h.1)) (at_grown xs x u i at)
 
   pub prefix_self : (xs : List X) → IsPrefix xs xs
   prefix_self xs = ([], append-nil xs)
@@ -76,6 +77,42 @@ module _ {X : Type 0} where
       by : (b : Bool) → IsPrefix (if b then ys else xs) log
       by true = q
       by false = p
+
+  -- of two beginnings of one list, the one that is no longer is a beginning of the other
+  pub prefix_of_two : (xs ys log : List X) → IsPrefix xs log → IsPrefix ys log → length xs ≤ length ys → IsPrefix xs ys
+  prefix_of_two [] ys log p q le = prefix_nil ys
+  prefix_of_two (x ∷ xs) [] log p q le = absurd (omega arith)
+  prefix_of_two (x ∷ xs) (y ∷ ys) log p q le =
+      let both : x ∷ (xs ++ p.0) ≡ y ∷ (ys ++ q.0) = p.1 ∙ sym q.1 in
+      let heads : x ≡ y = cc in
+      let tails : xs ++ p.0 ≡ ys ++ q.0 = cc in
+      let rest = prefix_of_two xs ys (ys ++ q.0) (p.0, tails) (q.0, refl) (omega arith) in
+      (rest.0, (λ i. heads i ∷ rest.1 i))
+
+  pub prefix_shorter : (xs ys log : List X) → IsPrefix xs log → IsPrefix ys log → IsPrefix (shorter xs ys) (longer xs ys)
+  prefix_shorter xs ys log p q = ⊎_elim
+      (λ (less : length xs < length ys). by true (lt-ltb (length xs) (length ys) less) (prefix_of_two xs ys log p q (omega arith)))
+      (λ (more : length ys ≤ length xs). by false (le-ltb (length xs) (length ys) more) (prefix_of_two ys xs log q p more))
+      (cases_lt (length xs) (length ys))
+    where
+      by : (b : Bool) → nat_lt (length xs) (length ys) ≡ b → IsPrefix (if b then xs else ys) (if b then ys else xs) → IsPrefix (shorter xs ys) (longer xs ys)
+      by b e h = subst (λ (c : Bool). IsPrefix (if c then xs else ys) (if c then ys else xs)) (sym e) h
+
+  -- so both are beginnings of the longer one
+  both_fronts : (xs ys : List X) → IsPrefix (shorter xs ys) (longer xs ys) → IsPrefix xs (longer xs ys) × IsPrefix ys (longer xs ys)
+  both_fronts xs ys p = by (nat_lt (length xs) (length ys)) p
+    where
+      by : (b : Bool) → IsPrefix (if b then xs else ys) (if b then ys else xs) → IsPrefix xs (if b then ys else xs) × IsPrefix ys (if b then ys else xs)
+      by true h = (h, prefix_self ys)
+      by false h = (prefix_self xs, h)
+
+  -- the same of what was met and seen in a join, and is seen now
+  pub met_fronts : (mine theirs met seen now : List X) → met ≡ shorter mine theirs → seen ≡ longer mine theirs → now ≡ seen → IsPrefix met seen → IsPrefix mine now × IsPrefix theirs now
+  met_fronts mine theirs met seen now m s n p =
+      let joined : IsPrefix (shorter mine theirs) (longer mine theirs) = subst (λ l. IsPrefix (shorter mine theirs) l) s (subst (λ l. IsPrefix l seen) m p) in
+      let fronts = both_fronts mine theirs joined in
+      let is : longer mine theirs ≡ now = sym (n ∙ s) in
+      (subst (λ l. IsPrefix mine l) is fronts.0, subst (λ l. IsPrefix theirs l) is fronts.1)
 
   pub last_same : (xs : List X) (a b : X) → xs ++ a ∷ [] ≡ xs ++ b ∷ [] → a ≡ b
   last_same [] a b e = cc e

@@ -15,7 +15,7 @@ use Rattle.revision_lock.specs.declared.view.Slot.{Slot}
 use Rattle.revision_lock.specs.declared.view.Slot.TheVariants.{Home}
 use Rattle.revision_lock.specs.Histories.{owned, numbered, merged}
 use Rattle.revision_lock.specs.Order.{Course, Stands, Fits, Keeps, Ruled, tickets_at, tickets_in, share_in, first_view, spent_view, left_part, new_part, both}
-use Rattle.revision_lock.proofs.Lists.{sum_set, two_le, at_inside, at_exists, at_one, at_grown, prefix_nil, prefix_longer, given_over, given_over_here, given_over_else}
+use Rattle.revision_lock.proofs.Lists.{sum_set, two_le, at_inside, at_exists, at_one, at_grown, prefix_nil, prefix_longer, prefix_shorter, given_over, given_over_here, given_over_else}
 use Rattle.revision_lock.proofs.Parts.{owned_same, owned_none, owned_all, no_owner, merged_owned}
 use Rattle.revision_lock.proofs.Rules.{after_join, stands_join, each_set, worker_apart, worker_kept, idle_rests}
 
@@ -43,7 +43,7 @@ module _ {V B E : Type 0} (start_of : V → B) (list_of : V → List E) (first :
   }
     where
       one : (j : ℕ) (v : View V E) → get_elem? (first_view first seats ∷ []) j ≡ some v → Fits first_course first j v
-      one zero v at = subst (Fits first_course first 0) (some-injective (first_view first seats) v at) record { knows = λ _. refl; seen = prefix_nil []; own = refl; spent = λ _. refl; stands = tt }
+      one zero v at = subst (Fits first_course first 0) (some-injective (first_view first seats) v at) record { knows = λ _. refl; seen = prefix_nil []; met = prefix_nil []; own = refl; spent = λ _. refl; stands = tt }
       one (suc j) v at = absurd (some-ne-none v (sym at))
 
   pub splits : (me : ℕ) (v : View V E) → v.stage ≡ Idle → 2 ≤ v.share → Splits Rule me v (left_part v) (new_part v)
@@ -73,12 +73,13 @@ module _ {V B E : Type 0} (start_of : V → B) (list_of : V → List E) (first :
         owners = λ place inside. let o = r.owners place inside in omega arith;
         each = λ j u e. ⊎_elim
             (λ (old : get_elem? (set s.views me w) j ≡ some u). each_set (Fits c first) s.views me w
-            record { knows = λ _. f.knows (omega arith); seen = f.seen; own = f.own; spent = λ gone. absurd (omega arith); stands = subst (λ (st : Stage). Stands c me w st) (sym idle) tt }
+            record { knows = λ _. f.knows (omega arith); seen = f.seen; met = f.met; own = f.own; spent = λ gone. absurd (omega arith); stands = subst (λ (st : Stage). Stands c me w st) (sym idle) tt }
             (λ i y apart a. r.each i y a) j u old)
             (λ (new : (j ≡ length (set s.views me w)) × (n ≡ u)). subst (λ (y : View V E). Fits c first j y) new.1
             record {
               knows = λ _. f.knows (omega arith);
               seen = f.seen;
+              met = prefix_nil v.seen;
               own = sym (owned_none c.owner j 0 c.log (λ p low high is.
                   let o = r.owners p (omega arith) in
                   let at_end : j ≡ length s.views = new.0 ∙ length-set s.views me w in omega arith));
@@ -123,6 +124,7 @@ module _ {V B E : Type 0} (start_of : V → B) (list_of : V → List E) (first :
             record {
               knows = λ share. absurd (omega arith);
               seen = prefix_nil c.log;
+              met = prefix_nil [];
               own = sym (owned_none owner' other 0 c.log (λ p low high. gone me other c p apart));
               spent = λ _. refl;
               stands = tt;
@@ -131,6 +133,7 @@ module _ {V B E : Type 0} (start_of : V → B) (list_of : V → List E) (first :
             (λ _. record {
               knows = λ _. f.knows some_share;
               seen = prefix_longer v.seen u.seen c.log f.seen g.seen;
+              met = prefix_shorter v.seen u.seen c.log f.seen g.seen;
               own = (λ i. merged (f.own i) (g.own i)) ∙ merged_owned c.owner me other 0 c.log (λ same. apart (sym same));
               spent = λ nothing. absurd (omega arith);
               stands = subst (λ (st : Stage). Stands (after_join me other c) me w st) (sym idle) tt;
@@ -138,6 +141,7 @@ module _ {V B E : Type 0} (start_of : V → B) (list_of : V → List E) (first :
             (λ i z not_me a not_that. let h = r.each i z a in record {
               knows = h.knows;
               seen = h.seen;
+              met = h.met;
               own = h.own ∙ owned_same c.owner owner' i 0 c.log (λ p low high. stays me other c i p not_me not_that);
               spent = h.spent;
               stands = stands_join me other c i z z.stage h.stands;

@@ -19,7 +19,7 @@ use Rattle.revision_lock.specs.declared.view.Slot.{Slot}
 use Rattle.revision_lock.specs.declared.view.Slot.TheVariants.{Home, Shown}
 use Rattle.revision_lock.specs.Histories.{owned, owned_from, IsInOrder}
 use Rattle.revision_lock.specs.Order.{Course, Stands, Fits, Keeps, Ruled, tickets_at, tickets_in, share_in, at_stage, works, noted, draws, looks, counts, passes, reads}
-use Rattle.revision_lock.proofs.Lists.{sum_set, at_inside, prefix_self, prefix_grown, last_same, with_at, with_at_here, with_at_else}
+use Rattle.revision_lock.proofs.Lists.{sum_set, at_inside, prefix_self, prefix_nil, prefix_grown, last_same, with_at, with_at_here, with_at_else}
 use Rattle.revision_lock.proofs.Parts.{owned_yes, owned_no, owned_same, owned-append, owned_in_order}
 use Rattle.revision_lock.proofs.Rules.{after_draw, after_look, after_count, after_pass, stands_draw, stands_look, stands_count, stands_pass, each_set, few_out, served, worker_apart, worker_kept, idle_rests, waits_rests}
 
@@ -69,8 +69,8 @@ module _ {V B E : Type 0} (start_of : V → B) (list_of : V → List E) (first :
           few = r.few;
           owners = owners_stay s r me w;
           each = each_set (Fits (after_draw me c) first) s.views me w
-              record { knows = f.knows; seen = f.seen; own = f.own; spent = f.spent; stands = (some_share, omega arith, omega arith, with_at_here c.next me c.holder c.next refl) }
-              (λ j u apart e. let g = r.each j u e in record { knows = g.knows; seen = g.seen; own = g.own; spent = g.spent; stands = stands_draw me c j u u.stage g.stands });
+              record { knows = f.knows; seen = f.seen; met = f.met; own = f.own; spent = f.spent; stands = (some_share, omega arith, omega arith, with_at_here c.next me c.holder c.next refl) }
+              (λ j u apart e. let g = r.each j u e in record { knows = g.knows; seen = g.seen; met = g.met; own = g.own; spent = g.spent; stands = stands_draw me c j u u.stage g.stands });
         },
         (c.next, sym (ap (λ l. slice_index l 0) r.words), refl),
       )
@@ -120,8 +120,8 @@ module _ {V B E : Type 0} (start_of : V → B) (list_of : V → List E) (first :
           few = r.few;
           owners = owners_stay s r me w;
           each = each_set (Fits (after_look c) first) s.views me w
-              record { knows = f.knows; seen = subst (λ l. IsPrefix l c.log) (sym k.3) (prefix_self c.log); own = f.own; spent = f.spent; stands = (h.0, now, h.2, h.3, refl, k.3) }
-              (λ j u apart e. let g = r.each j u e in record { knows = g.knows; seen = g.seen; own = g.own; spent = g.spent; stands = stands_look c j u u.stage g.stands });
+              record { knows = f.knows; seen = subst (λ l. IsPrefix l c.log) (sym k.3) (prefix_self c.log); met = prefix_nil (list_of x); own = f.own; spent = f.spent; stands = (h.0, now, h.2, h.3, refl, k.3) }
+              (λ j u apart e. let g = r.each j u e in record { knows = g.knows; seen = g.seen; met = g.met; own = g.own; spent = g.spent; stands = stands_look c j u u.stage g.stands });
         },
         subst (λ l. IsPrefix v.seen l) (sym k.3) f.seen,
         k.2,
@@ -207,6 +207,7 @@ module _ {V B E : Type 0} (start_of : V → B) (list_of : V → List E) (first :
               record {
                 knows = f.knows;
                 seen = subst (λ l. IsPrefix (l ++ e ∷ []) (c.log ++ e ∷ [])) (sym h.5) (prefix_self (c.log ++ e ∷ []));
+                met = prefix_nil (v.seen ++ e ∷ []);
                 own = ap (λ l. l ++ (length v.seen, e) ∷ []) f.own
                     ∙ (ap (λ (n : ℕ). owned c.owner me c.log ++ (n, e) ∷ []) (ap length h.5)
                     ∙ ((λ i. owns_less me me c e i ++ (length c.log, e) ∷ [])
@@ -218,6 +219,7 @@ module _ {V B E : Type 0} (start_of : V → B) (list_of : V → List E) (first :
               (λ j u apart a. let g = r.each j u a in record {
                 knows = g.knows;
                 seen = prefix_grown u.seen c.log (e ∷ []) g.seen;
+                met = g.met;
                 own = g.own ∙ (owns_less me j c e
                     ∙ (sym (append-nil (owned owner' j c.log))
                     ∙ ap (λ l. owned owner' j c.log ++ l) (sym (owned_no owner' j (length c.log) e [] (λ is. apart (sym is ∙ with_at_here (length c.log) me c.owner (length c.log) refl))))
@@ -270,14 +272,14 @@ module _ {V B E : Type 0} (start_of : V → B) (list_of : V → List E) (first :
           few = r.few;
           owners = owners_stay s r me w;
           each = each_set (Fits (after_pass c) first) s.views me w
-              record { knows = f.knows; seen = f.seen; own = f.own; spent = f.spent; stands = tt }
-              (λ j u apart e. let g = r.each j u e in record { knows = g.knows; seen = g.seen; own = g.own; spent = g.spent; stands = stands_pass me c j u u.stage apart mine g.stands });
+              record { knows = f.knows; seen = f.seen; met = f.met; own = f.own; spent = f.spent; stands = tt }
+              (λ j u apart e. let g = r.each j u e in record { knows = g.knows; seen = g.seen; met = g.met; own = g.own; spent = g.spent; stands = stands_pass me c j u u.stage apart mine g.stands });
         },
         refl,
       )
 
-  -- a look at the own entries
+  -- a look at the own entries, and at what was met
   pub reads_allowed : (slots me : ℕ) (v : View V E) (cs : Held) → Allows Rule slots me (v, cs) 0 (λ n. n) (reads (step slots 0 0 0 none) (v, cs))
   reads_allowed slots me v cs s r deep at fits =
       let f = r.each me v at in
-      (v, keeps, tt, unmoved s 0 me v cs r at, (refl, subst IsInOrder (sym f.own) (owned_in_order r.course.owner me 0 r.course.log)))
+      (v, keeps, tt, unmoved s 0 me v cs r at, (refl, subst IsInOrder (sym f.own) (owned_in_order r.course.owner me 0 r.course.log), f.met))

@@ -51,3 +51,7 @@ module _ {E : Type 0} where
   -- the longer of two lists, and the first of two that are of one length
   abbrev pub longer : List E → List E → List E
   longer xs ys = if nat_lt (length xs) (length ys) then ys else xs
+
+  -- the other one of the two
+  abbrev pub shorter : List E → List E → List E
+  shorter xs ys = if nat_lt (length xs) (length ys) then xs else ys

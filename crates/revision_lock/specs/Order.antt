@@ -6,7 +6,7 @@ use mathlib.Core.List.{IsPrefix}
 use lib.ListN.{get_elem?}
 use Rattle.std.specs.declared.snapshot.Snapshot.{Snapshot}
 use Rattle.atomic_table.specs.Table.{State, Me, Step, rest}
-use Rattle.revision_lock.specs.Histories.{IsInOrder, owned, merged, longer}
+use Rattle.revision_lock.specs.Histories.{IsInOrder, owned, merged, longer, shorter}
 use Rattle.revision_lock.specs.declared.view.Stage.{Stage}
 use Rattle.revision_lock.specs.declared.view.Stage.TheVariants.{Idle, Waits, Works}
 use Rattle.revision_lock.specs.declared.view.View.{View}
@@ -42,10 +42,11 @@ module _ {V E : Type 0} where
   Stands c me v (Waits t) = (0 < v.share) × (c.serving ≤ t) × (t < c.next) × (c.holder t ≡ me)
   Stands c me v (Works t) = (0 < v.share) × (t ≡ c.serving) × (t < c.next) × (c.holder t ≡ me) × (c.busy ≡ true) × (v.seen ≡ c.log)
 
--- A pass knows the first value, has seen a beginning of the one list, and owns what stands at its places. A spent one owns nothing
+-- A pass knows the first value, has seen a beginning of the one list, what it met in a join is a beginning of that, and it owns what stands at its places. A spent one owns nothing
 pub record Fits {V E : Type 0} (c : Course E) (first : V) (me : ℕ) (v : View V E) : Type 0 where
   pub knows : 0 < v.share → v.first ≡ Some first
   pub seen : IsPrefix v.seen c.log
+  pub met : IsPrefix v.met v.seen
   pub own : v.own ≡ owned c.owner me c.log
   pub spent : v.share ≡ 0 → v.own ≡ []
   pub stands : Stands c me v v.stage
@@ -71,33 +72,33 @@ pub record Ruled {V B E : Type 0} (start_of : V → B) (list_of : V → List E) 
 module _ {V E : Type 0} where
   -- the view of the first pass
   abbrev pub first_view : V → ℕ → View V E
-  first_view first seats = record { share = seats; stage = Idle; first = Some first; seen = []; own = [] }
+  first_view first seats = record { share = seats; stage = Idle; first = Some first; seen = []; met = []; own = [] }
 
   abbrev pub spent_view : View V E
-  spent_view = record { share = 0; stage = Idle; first = None; seen = []; own = [] }
+  spent_view = record { share = 0; stage = Idle; first = None; seen = []; met = []; own = [] }
 
   -- the view with this stage
   abbrev pub at_stage : Stage → View V E → View V E
-  at_stage stage v = record { share = v.share; stage = stage; first = v.first; seen = v.seen; own = v.own }
+  at_stage stage v = record { share = v.share; stage = stage; first = v.first; seen = v.seen; met = v.met; own = v.own }
 
   -- the view in its turn, in which it has seen this list
   abbrev pub works : ℕ → List E → View V E → View V E
-  works t log v = record { share = v.share; stage = Works t; first = v.first; seen = log; own = v.own }
+  works t log v = record { share = v.share; stage = Works t; first = v.first; seen = log; met = []; own = v.own }
 
   -- the view with one entry more, which it owns
   abbrev pub noted : E → View V E → View V E
-  noted e v = record { share = v.share; stage = v.stage; first = v.first; seen = v.seen ++ e ∷ []; own = v.own ++ (length v.seen, e) ∷ [] }
+  noted e v = record { share = v.share; stage = v.stage; first = v.first; seen = v.seen ++ e ∷ []; met = []; own = v.own ++ (length v.seen, e) ∷ [] }
 
   -- what is left of a view that was split, and the new one
   abbrev pub left_part : View V E → View V E
-  left_part v = record { share = v.share - 1; stage = v.stage; first = v.first; seen = v.seen; own = v.own }
+  left_part v = record { share = v.share - 1; stage = v.stage; first = v.first; seen = v.seen; met = v.met; own = v.own }
 
   abbrev pub new_part : View V E → View V E
-  new_part v = record { share = 1; stage = Idle; first = v.first; seen = v.seen; own = [] }
+  new_part v = record { share = 1; stage = Idle; first = v.first; seen = v.seen; met = []; own = [] }
 
   -- two views in one
   abbrev pub both : View V E → View V E → View V E
-  both v w = record { share = v.share + w.share; stage = v.stage; first = v.first; seen = longer v.seen w.seen; own = merged v.own w.own }
+  both v w = record { share = v.share + w.share; stage = v.stage; first = v.first; seen = longer v.seen w.seen; met = shorter v.seen w.seen; own = merged v.own w.own }
 
 abbrev Sat : Type 0 → Type 0 → Type 0
 Sat V E = Me (Slot V) (View V E)
@@ -128,6 +129,7 @@ module _ {V E : Type 0} where
   abbrev pub passes : At V → Sat V E → ℕ → Sat V E → Type 0
   passes st m found m' = m' ≡ (at_stage Idle m.0, rest m.1)
 
-  -- nothing changed; the own entries are in the order of their places, and no place stands twice
+  -- nothing changed; the own entries are in the order of their places, and no place stands twice; of the lists that were
+  -- joined last, the shorter is a beginning of the one that is known
   abbrev pub reads : At V → Sat V E → ℕ → Sat V E → Type 0
-  reads st m found m' = (m' ≡ m) × IsInOrder m.0.own
+  reads st m found m' = (m' ≡ m) × IsInOrder m.0.own × IsPrefix m.0.met m.0.seen

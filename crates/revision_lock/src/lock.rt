@@ -73,13 +73,16 @@ impl<V: Chronicle> TurnLock<V> {
         }
     }
 
-    /// Gives the other pass's share and entries to the pass, which has then seen the longer of their two lists. No entry was noted by both.
+    /// Gives the other pass's share and entries to the pass, which has then seen the longer of their two lists. Both lists
+    /// are beginnings of it, so that nothing seen is forgotten. No entry was noted by both.
     pub fn join_pass(&self, pass: &mut Pass<V>, other: Pass<V>)
         requires pass { IsPassOf self.now pass.old }
         requires other { IsPassOf self.now other }
         ensures pass { IsPassOf self.now pass.new }
         ensures share { share_of pass.new ≡ share_of pass.old + share_of other }
         ensures seen { seen_by pass.new ≡ longer (seen_by pass.old) (seen_by other) }
+        ensures remembers { IsPrefix (seen_by pass.old) (seen_by pass.new) }
+        ensures learns { IsPrefix (seen_by other) (seen_by pass.new) }
         ensures own { own_of pass.new ≡ merged (own_of pass.old) (own_of other) }
         ensures in_order { IsInOrder (own_of pass.new) }
         ensures apart { AreApart (own_of pass.old) (own_of other) }

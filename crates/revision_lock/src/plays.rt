@@ -33,7 +33,7 @@ impl<V, E> Play<Slot<V>, View<V, E>> for PassOn {
     ghost then = { passes };
 }
 
-/// A look at the own entries.
+/// A look at the own entries, and at what was met in the last join.
 pub struct Read;
 
 impl<V, E> Play<Slot<V>, View<V, E>> for Read {

@@ -23,6 +23,8 @@ pub struct View<V, E> {
     pub first: Option<V>,
     /// The entries that it has seen, a beginning of the one list.
     pub seen: LinkedList<E>,
+    /// Of the two lists that its last join made into one, the shorter: a beginning of `seen`, until its next turn.
+    pub met: LinkedList<E>,
     /// The entries that it noted, each with its place.
     pub own: LinkedList<(u64, E)>,
 }

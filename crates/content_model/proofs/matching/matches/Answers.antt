@@ -1,4 +1,4 @@
-use Rattle.std.proofs.Common.{◌≡◌, ◌+◌, ◌<◌, ◌≤◌, ◌&&◌, ◌||◌, ℕ, true, List, [], ◌∷◌, drop, length, get_or, drop-cons, add-one, subst, arith, sym, ◌∙◌}
+use Rattle.std.proofs.Common.{◌≡◌, ◌+◌, ◌<◌, ◌≤◌, [], ◌∷◌, drop, length, get_or, drop-cons, add-one, subst, arith, sym, ◌∙◌}
 use Rattle.std.proofs.lemmas.List.{drop_all}
 use Rattle.content_model.proofs.Moment.{Moment, moment_start, moment_more, moment_end}
 use Rattle.content_model.proofs.matching.matches.Goals as goal

@@ -1,8 +1,8 @@
-use Rattle.std.proofs.Common.{◌≡◌, ◌≤◌, ◌<◌, ◌+◌, ℕ, Some, refl, sym, ap, ◌∙◌, subst, arith, length, get_or}
+use Rattle.std.proofs.Common.{◌≡◌, ◌+◌, refl, sym, ap, ◌∙◌, subst, arith, length, get_or}
 use Rattle.content_model.specs.Particle.{with_names}
 use Rattle.content_model.specs.Symbols.{number_in}
 use Rattle.content_model.specs.Grammar.{IsFirstFault}
-use Rattle.content_model.specs.Machine.{start, step, finish}
+use Rattle.content_model.specs.Machine.{start, step}
 use Rattle.content_model.specs.ShownReader.{BeganBy}
 use Rattle.content_model.proofs.Reading.{grows_refl, grows_trans}
 use Rattle.content_model.proofs.Bytes.{is_text}

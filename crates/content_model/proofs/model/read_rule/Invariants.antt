@@ -2,7 +2,6 @@ use Rattle.std.proofs.Common.{◌≡◌, take, Some}
 use Rattle.content_model.specs.Symbols.{Grows}
 use Rattle.content_model.specs.Machine.{Reading, start, run}
 use Rattle.content_model.specs.ShownReader.{Reads, BeganBy}
-use Rattle.content_model.proofs.Knowing.{names_positive}
 use Rattle.content_model.proofs.model.read_rule.Given as goal
 
 abbrev pub invariant-loop-at : goal.invariant-loop-at

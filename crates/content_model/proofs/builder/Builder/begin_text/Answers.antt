@@ -1,4 +1,4 @@
-use Rattle.std.proofs.Common.{◌≡◌, true, false, [], ◌∷◌, None, refl, ap, sym, ◌∙◌, reverse}
+use Rattle.std.proofs.Common.{◌≡◌, true, false, [], refl, ap, sym, ◌∙◌, reverse}
 use Rattle.content_model.specs.Machine.{Mixing}
 use Rattle.content_model.proofs.Building.{text_begins, no_text, other_byte}
 use Rattle.content_model.proofs.builder.Builder.begin_text.Goals.{else-byte-eq35-via-then-byte-eq35+else-is_fresh, else-byte-eq35-via-else-byte-eq35}

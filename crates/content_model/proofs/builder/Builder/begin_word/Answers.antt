@@ -1,4 +1,4 @@
-use Rattle.std.proofs.Common.{◌≡◌, true, false, refl, ap, sym, ◌∙◌, subst, Option}
+use Rattle.std.proofs.Common.{◌≡◌, true, false, sym, ◌∙◌, subst, Option}
 use Rattle.content_model.specs.Machine.{Reading}
 use Rattle.content_model.specs.Shown.{Begins}
 use Rattle.content_model.proofs.Building.{name_begins, text_instead, mixed_begins}

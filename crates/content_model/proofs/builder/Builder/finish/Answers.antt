@@ -1,4 +1,4 @@
-use Rattle.std.proofs.Common.{◌≡◌, true, false, refl, ap, sym, ◌∙◌}
+use Rattle.std.proofs.Common.{◌≡◌, true, false, sym, ◌∙◌}
 use Rattle.content_model.proofs.Building.{group_ends, group_open, mixed_ends, mixed_done}
 use Rattle.content_model.proofs.builder.Builder.finish.Goals as goal
 

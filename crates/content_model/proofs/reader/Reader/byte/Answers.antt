@@ -1,4 +1,4 @@
-use Rattle.std.proofs.Common.{refl, sym, ◌∙◌, subst, get_or, slice_range}
+use Rattle.std.proofs.Common.{refl, sym, ◌∙◌, subst, get_or}
 use Rattle.content_model.specs.ShownReader.{BeganBy}
 use Rattle.content_model.proofs.Reading.{goes_at, goes_fixed, stops_fixed, goes_in_name, stops_in_name, goes_behind_name}
 use Rattle.content_model.proofs.reader.Reader.byte.Goals as goal

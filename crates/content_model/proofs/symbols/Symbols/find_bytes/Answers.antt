@@ -1,4 +1,4 @@
-use Rattle.std.proofs.Common.{◌≡◌, ◌+◌, ℕ, Some, None, sym, ◌∙◌, ap}
+use Rattle.std.proofs.Common.{Some, None, ◌∙◌, ap}
 use Rattle.content_model.specs.Symbols.{symbol_in}
 use Rattle.content_model.proofs.Table.{found}
 use Rattle.content_model.proofs.symbols.Symbols.find_bytes.Goals as goal

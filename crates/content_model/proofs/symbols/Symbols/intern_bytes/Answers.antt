@@ -1,4 +1,4 @@
-use Rattle.std.proofs.Common.{◌≡◌, ◌+◌, ◌++◌, ◌∷◌, [], ℕ, Some, None, cond, map, sym, ◌∙◌, ap, refl}
+use Rattle.std.proofs.Common.{◌+◌, ◌++◌, ◌∷◌, [], Some, cond, map, sym, ◌∙◌, ap, refl}
 use Rattle.std.specs.List.{list_any}
 use Rattle.content_model.specs.Symbols.{symbol_in, with_name}
 use Rattle.content_model.proofs.Table.{inserted, is_key, has_number}

@@ -1,6 +1,7 @@
 use Rattle.std.proofs.Common.{◌≡◌, ap, subst, ◌∙◌, arith}
 use Rattle.revision_lock.specs.Histories.{IsInOrder, merged}
-use Rattle.revision_lock.specs.Passes.{own_of}
+use Rattle.revision_lock.specs.Passes.{seen_by, own_of}
+use Rattle.revision_lock.proofs.Lists.{met_fronts}
 use Rattle.revision_lock.proofs.Parts.{apart}
 use Rattle.revision_lock.proofs.Passing.{joins}
 use Rattle.revision_lock.proofs.Steps.{reads_allowed}
@@ -24,3 +25,13 @@ returns-clause-apart g c =
     let other = own_of c.args.other in
     let own : c.join_seat.new.seat.me.0.own ≡ merged mine other = ap (λ m. m.0.own) c.join_seat.ensures.2 in
     apart 0 mine other (subst IsInOrder own c.load.ensures.2.1)
+
+pub returns-clause-remembers : goal.returns-clause-remembers
+returns-clause-remembers g c =
+    (met_fronts (seen_by c.args.pass.now) (seen_by c.args.other) c.join_seat.new.seat.me.0.met c.join_seat.new.seat.me.0.seen c.load.new.seat.me.0.seen
+    (ap (λ m. m.0.met) c.join_seat.ensures.2) (ap (λ m. m.0.seen) c.join_seat.ensures.2) (ap (λ m. m.0.seen) c.load.ensures.2.0) c.load.ensures.2.2).0
+
+pub returns-clause-learns : goal.returns-clause-learns
+returns-clause-learns g c =
+    (met_fronts (seen_by c.args.pass.now) (seen_by c.args.other) c.join_seat.new.seat.me.0.met c.join_seat.new.seat.me.0.seen c.load.new.seat.me.0.seen
+    (ap (λ m. m.0.met) c.join_seat.ensures.2) (ap (λ m. m.0.seen) c.join_seat.ensures.2) (ap (λ m. m.0.seen) c.load.ensures.2.0) c.load.ensures.2.2).1
