@@ -1,7 +1,7 @@
 #!/usr/bin/env python3
 """Runs random stylesheets, documents and scripts on the program, and compares what it writes with what a model of the editor says.
 
-The model here is written from the rules of the editor alone and shares nothing with the program. It is no part of the merge gate.
+The model here is written from the rules of the editor alone and shares nothing with the program. The merge gate runs 200 seeds.
 Usage: random_scripts.py [--program PATH] [--commands show,at,type] [--count N] [--seed SEED]; without a program it is built by
 tests/build.sh. A command whose word is not among those named is expected to be refused as not built. The first difference is made
 smaller, printed with its seed, and ends the run with status 1."""
@@ -510,4 +510,5 @@ def main():
     print(f"random scripts: {options.count} from seed {options.seed}, no difference ({refused} inputs refused, {answers} lines compared)")
 
 
-main()
+if __name__ == "__main__":
+    main()
