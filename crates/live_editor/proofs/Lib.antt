@@ -1,6 +1,7 @@
 pub mod BegunRun
 pub mod CommandLines
 pub mod Typing
+pub mod Moving
 pub mod Looking
 pub mod Putting
 pub mod StandingLaws

@@ -6,16 +6,15 @@ use Rattle.std.specs.Option.{option_map}
 use Rattle.std.proofs.lemmas.Iterator.Adapters.{position_from-zero}
 use Rattle.std.proofs.lemmas.List.{append-nil, take_more, drop_more, drop_all}
 use Rattle.source_tree.specs.declared.prim.CaretPlace.{CaretPlace}
-use Rattle.source_tree.specs.Places.{carried_through}
 use Rattle.source_tree.specs.declared.prim.Caret.{Caret}
 use Rattle.plain_editor.specs.Stops.{Stop, place_of, stops_behind, occurrence_behind, comes_from}
 use Rattle.plain_editor.specs.Stops as stops
-use Rattle.plain_editor.specs.Editor.{Editor, Done, Refused, stands_at, caret_of, with_caret, put_first, put_among}
+use Rattle.plain_editor.specs.Editor.{Editor, Refused, stands_at, caret_of, put_first, put_among}
 use Rattle.live_editor.specs.declared.view.Boundary.{Boundary}
 use Rattle.live_editor.specs.declared.reply.Rule.{Rule}
 use Rattle.live_editor.specs.Answers.{rule_of}
 use Rattle.live_editor.specs.Shown.{boundary_of, boundaries_of}
-use Rattle.live_editor.specs.Held.{taken, is_place, is_at, is_caret_at, is_place_at, refused_at, IsCaretAt}
+use Rattle.live_editor.specs.Held.{taken, is_place, is_at, is_caret_at, is_place_at, refused_at, IsHead, IsCaretAt}
 
 -- the stops that stand there
 abbrev pub in_place : ℕ → ℕ → ℕ → List stops.Boundary → List Boundary → List Stop
@@ -101,18 +100,23 @@ some_from page line column k i before [] e = absurd (none-some i e)
 some_from page line column k i before (b ∷ bs) e =
     some_step (is_at page line column b) (place_of b.origin) page line column k i before b bs refl refl e (λ later. some_from page line column (k + 1) i (before ++ boundary_of b ∷ []) bs later)
 
-pub takes_caret : (editor : Editor) (page line column i : ℕ) (bs : List Boundary) (caret : Caret) → position (is_caret_at page line column) bs ≡ Some i → IsCaretAt bs i caret →
-    put_among editor (in_place page line column [] bs) ≡ taken editor (Ok caret)
-takes_caret editor page line column i bs caret e is =
+pub takes_first : (page line column i : ℕ) (bs : List Boundary) (caret : Caret) → position (is_caret_at page line column) bs ≡ Some i → IsCaretAt bs i caret →
+    IsHead caret (filter_map caret_of (in_place page line column [] bs))
+takes_first page line column i bs caret e is =
     let t : Taken page line column 0 i [] bs = some_from page line column 0 i [] bs (sym (position_from-zero (is_caret_at page line column) bs) ∙ e) in
     let at : i ≡ t.at = t.is ∙ (let z : 0 + t.at ≡ t.at = omega arith in z) in
     let here : is.here ≡ t.here = same_Some is.here t.here (sym is.found ∙ ap (slice_get bs) at ∙ t.found) in
     let place : caret.place ≡ t.place = same_Some caret.place t.place (sym is.place ∙ ap (λ (b : Boundary). place_of b.origin) here ∙ t.is_place) in
     let occurrence : caret.occurrence ≡ occurrence_behind (boundaries_of (take t.at bs)) (Some t.place) =
-    is.occurrence ∙ ap (λ n. occurrence_behind (boundaries_of (take n bs)) (Some caret.place)) at ∙ ap (λ p. occurrence_behind (boundaries_of (take t.at bs)) (Some p)) place in
-    ap (put_first editor (in_place page line column [] bs)) t.first
-    ∙ ap (λ p. (with_caret editor (carried_through editor.since p) (occurrence_behind (boundaries_of (take t.at bs)) (Some t.place)), Done)) (sym place)
-    ∙ ap (λ n. (with_caret editor (carried_through editor.since caret.place) n, Done)) (sym occurrence)
+    is.occurrence ∙ ap (λ n. occurrence_behind (boundaries_of (take n bs)) (Some caret.place)) at ∙ ap (λ p. occurrence_behind (boundaries_of (take t.at bs)) (Some p)) place in (
+      t.carets,
+      t.first ∙ ap (λ p. record { place = p; occurrence = occurrence_behind (boundaries_of (take t.at bs)) (Some t.place) } ∷ t.carets) (sym place)
+          ∙ ap (λ n. record { place = caret.place; occurrence = n } ∷ t.carets) (sym occurrence),
+    )
+
+pub takes_caret : (editor : Editor) (page line column i : ℕ) (bs : List Boundary) (caret : Caret) → position (is_caret_at page line column) bs ≡ Some i → IsCaretAt bs i caret →
+    put_among editor (in_place page line column [] bs) ≡ taken editor (Ok caret)
+takes_caret editor page line column i bs caret e is = ap (put_first editor (in_place page line column [] bs)) (takes_first page line column i bs caret e is).1
 
 pub place_found : (page line column i : ℕ) (bs : List Boundary) → position (is_caret_at page line column) bs ≡ Some i → (i < length bs) × (is_place_at bs i ≡ true)
 place_found page line column i bs e =

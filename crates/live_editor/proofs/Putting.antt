@@ -1,17 +1,21 @@
 -- Where `at` puts the caret, the editor stays sound.
-use Rattle.std.proofs.Common.{◌≡◌, ℕ, List, Some, Ok, filter, subst}
+use Rattle.std.proofs.Common.{◌≡◌, ℕ, List, Some, filter, filter_map, subst}
+use Rattle.std.specs.List.{AllByRecursion}
 use Rattle.source_tree.specs.declared.prim.Caret.{Caret}
-use Rattle.source_tree.specs.Places.{carried_through}
-use Rattle.plain_editor.specs.Editor.{Editor, Reply, stands_at, with_caret, put_among}
-use Rattle.plain_editor.specs.Sound.{AreLive, IsSound}
-use Rattle.plain_editor.proofs.Steps.{put_at_sound}
+use Rattle.source_tree.specs.declared.prim.CaretPlace.{CaretPlace}
+use Rattle.source_tree.specs.Places.{IsPlaceOf}
+use Rattle.plain_editor.specs.Editor.{Editor, stands_at, caret_of, with_caret}
+use Rattle.plain_editor.specs.Sound.{IsLive, AreLive}
+use Rattle.plain_editor.proofs.Steps.{IsCaretLive, carets_live}
 use Rattle.live_editor.specs.declared.view.Boundary.{Boundary}
-use Rattle.live_editor.specs.Held.{IsSomeSound, stops_of, taken}
+use Rattle.live_editor.specs.Held.{IsSomeSound, IsHead, stops_of}
 
-pub put_sound : (editor : Editor) (page line column : ℕ) (bs : List Boundary) (caret : Caret) → IsSomeSound editor → editor.stops ≡ Some (stops_of bs) →
-    put_among editor (filter (stands_at page line column) (stops_of bs)) ≡ taken editor (Ok caret) → IsSomeSound (with_caret editor (carried_through editor.since caret.place) caret.occurrence)
-put_sound editor page line column bs caret sound is found = (
-  sound.0,
-  subst (λ (a : Editor × Reply). IsSound sound.0 a.0) found
-      (put_at_sound sound.0 editor page line column (Some (stops_of bs)) sound.1 (subst (AreLive editor.source editor.since) is sound.1.stops)),
-)
+-- the caret that is taken was at a place, which lasts
+pub first_live : (editor : Editor) (page line column : ℕ) (bs : List Boundary) (caret : Caret) → IsSomeSound editor → editor.stops ≡ Some (stops_of bs) →
+    IsHead caret (filter_map caret_of (filter (stands_at page line column) (stops_of bs))) → IsLive editor.source editor.since (Some caret.place)
+first_live editor page line column bs caret sound is first =
+    let all = carets_live editor.source editor.since page line column (stops_of bs) (subst (AreLive editor.source editor.since) is sound.1.stops) in
+    (subst (AllByRecursion (IsCaretLive editor.source editor.since)) first.1 all).0
+
+pub put_sound : (editor : Editor) (place : CaretPlace) (occurrence : ℕ) → IsSomeSound editor → IsPlaceOf editor.source place → IsSomeSound (with_caret editor place occurrence)
+put_sound editor place occurrence sound is = (sound.0, record { proper = sound.1.proper; caret = is; stops = sound.1.stops })

@@ -14,6 +14,7 @@ rule_of code.NoPlace = editor.NoPlace
 rule_of code.FixedText = editor.FixedText
 rule_of code.ComputedText = editor.ComputedText
 rule_of code.AttributeText = editor.AttributeText
+rule_of code.Gone = editor.Gone
 rule_of code.NoCaret = editor.NoCaret
 rule_of code.Long = editor.Long
 rule_of code.Nodes = editor.Nodes

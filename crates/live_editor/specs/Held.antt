@@ -1,13 +1,13 @@
 -- The editor in memory stands for the plain editor, and how proofs tell two of these apart.
-use Rattle.std.specs.Prelude.{◌≡◌, ℕ, ◌+◌, ◌==◌, ◌&&◌, Bool, false, List, [], length, take, filter, slice_get, Option, Some, None, is_some, Result, Ok, Err, refl}
+use Rattle.std.specs.Prelude.{◌≡◌, ℕ, ◌+◌, ◌==◌, ◌&&◌, Bool, false, List, [], ◌∷◌, length, take, filter, slice_get, Option, Some, None, is_some, Result, Ok, Err, refl}
 use Rattle.std.specs.Coded.{Coded, code_by, coded×, coded_ℕ}
 use Rattle.serna_kinds.specs.Names.{NameParts}
 use Rattle.source_model.specs.Source.{Source}
 use Rattle.source_tree.specs.declared.prim.Caret.{Caret}
-use Rattle.source_tree.specs.declared.prim.Primitive.{Primitive}
-use Rattle.source_tree.specs.Places.{carried_through}
+use Rattle.source_tree.specs.declared.prim.Moves.{Moves}
+use Rattle.source_tree.specs.Places.{moved_through}
 use Rattle.result_origin.specs.declared.origin.Origin.{Origin}
-use Rattle.plain_editor.specs.Editor.{Editor, Reply, Done, Refused, NoPlace, with_caret, refused_by}
+use Rattle.plain_editor.specs.Editor.{Editor, Reply, Refused, NoPlace, put_there, refused_by}
 use Rattle.plain_editor.specs.Editor as editor
 use Rattle.plain_editor.specs.Stops.{Stop, place_of, stops_behind, comes_from}
 use Rattle.plain_editor.specs.Sound.{IsSound}
@@ -27,16 +27,16 @@ abbrev pub IsSomeSound : Editor → Type 0
 IsSomeSound editor = (names : List NameParts) × IsSound names editor
 
 abbrev pub Parts : Type 0
-Parts = List NameParts × (Source × (ℕ × (Option Caret × (Option (List Stop) × List Primitive))))
+Parts = List NameParts × (Source × (ℕ × (Option Caret × (Option (List Stop) × List Moves))))
 
-pub editor_code : Coded (List NameParts) → Coded Source → Coded (Option Caret) → Coded (Option (List Stop)) → Coded (List Primitive) → Coded Editor
+pub editor_code : Coded (List NameParts) → Coded Source → Coded (Option Caret) → Coded (Option (List Stop)) → Coded (List Moves) → Coded Editor
 editor_code names source caret stops since =
     code_by Parts (coded× names (coded× source (coded× coded_ℕ (coded× caret (coded× stops since))))) (λ e. (e.names, (e.source, (e.revision, (e.caret, (e.stops, e.since))))))
     (λ p. record { names = p.0; source = p.1.0; revision = p.1.1.0; caret = p.1.1.1.0; stops = p.1.1.1.1.0; since = p.1.1.1.1.1 }) (λ _. refl)
 
 -- the editor after a caret was looked for in the last view, and what is answered
 abbrev pub taken : Editor → Result Caret Rule → Editor × Reply
-taken editor (Ok caret) = (with_caret editor (carried_through editor.since caret.place) caret.occurrence, Done)
+taken editor (Ok caret) = put_there editor (moved_through editor.since caret.place) caret.occurrence
 taken editor (Err rule) = (editor, Refused (rule_of rule))
 
 -- a refusal by a rule, or want of memory; the state is kept
@@ -63,6 +63,10 @@ is_place_at boundaries index = elim (slice_get boundaries index) [ None ↦ fals
 abbrev pub refused_at : Option Boundary → editor.Rule
 refused_at None = NoPlace
 refused_at (Some here) = refused_by here.origin
+
+-- the first of some carets
+abbrev pub IsHead : Caret → List Caret → Type 0
+IsHead caret carets = (rest : List Caret) × (carets ≡ caret ∷ rest)
 
 -- the caret at one of the boundaries, which is at a place
 pub record IsCaretAt (boundaries : List Boundary) (index : ℕ) (caret : Caret) : Type 0 where

@@ -1,31 +1,32 @@
-ghost use Rattle.std.specs.List.{find};
-ghost use Rattle.std.specs.Prelude.{position, ◌≡◌, ◌≢◌, ◌++◌, ◌+◌, ◌∷◌, [], Ok, Err, IsTrue, None, IfOk, IfErr, OnOk, OnErr, ℕ, List, filter, length, Some, ◌<◌, ◌≤◌};
+ghost use Rattle.std.specs.List.{find, flat_map};
+ghost use Rattle.std.specs.Prelude.{position, ◌≡◌, ◌≢◌, ◌++◌, ◌+◌, ◌∷◌, [], Ok, Err, IsTrue, None, IfOk, IfErr, OnOk, OnErr, ℕ, List, filter, filter_map, length, Some, ◌<◌, ◌≤◌};
 ghost use Rattle.std.specs.Str.{chars};
 ghost use Rattle.std.specs.String.{string_bytes};
 ghost use Rattle.source_tree.specs.declared.prim.CaretPlace.TheVariants as place;
-ghost use Rattle.source_tree.specs.Prims.{applied, MayApply, KeepsProper};
-ghost use Rattle.source_tree.specs.Places.{IsPlaceOf, carried_through};
+ghost use Rattle.serna_kinds.specs.Limits.{change_limit};
+ghost use Rattle.source_tree.specs.Prims.{applied, MayApply};
+ghost use Rattle.source_tree.specs.Places.{IsPlaceOf, begun_in, parents_in, is_there, node_of};
 ghost use Rattle.source_model.specs.Changes.{text_at};
 ghost use Rattle.source_tree.specs.Unnumbered.{document_of};
 ghost use Rattle.tree_lines.specs.Canonical.{canonical_text};
 ghost use Rattle.plain_editor.specs.Stops.{comes_from};
-ghost use Rattle.plain_editor.specs.Editor.{Editor, Done, Refused, opened, shown, stands_at, put_among, put_at, changed, bytes_of, typed_at, typed, obeyed, step, told, standing, standing_at, nearest, stands_for, refused_by, reply_text};
+ghost use Rattle.plain_editor.specs.Editor.{Editor, Done, Refused, opened, shown, stands_at, caret_of, put_among, put_at, changed, bytes_of, typed_at, typed, obeyed, step, told, standing, standing_at, nearest, stands_for, refused_by, reply_text};
 ghost use Rattle.plain_editor.specs.Editor as editor;
 ghost use Rattle.live_editor.specs.Answers.{rule_of, reply_of, standing_of, shown_at};
 ghost use Rattle.live_editor.specs.Shown.{boundaries_of, boundary_of};
-ghost use Rattle.live_editor.specs.Held.{stops_of, IsSomeSound, IsRefusal, taken, is_place, is_at, is_caret_at, is_place_at, refused_at, IsCaretAt};
+ghost use Rattle.live_editor.specs.Held.{stops_of, IsSomeSound, IsRefusal, IsHead, taken, is_place, is_at, is_caret_at, is_place_at, refused_at, IsCaretAt};
 ghost use Rattle.plain_editor.specs.Commands as command;
 ghost use Rattle.live_editor.specs.declared.editor.TypeFault.TheVariants as fault;
 
 use crate::command::{Command, read_command};
-use crate::place::{carried, is_same_place, place_of};
+use crate::place::{is_same_place, moved_through, place_of};
 use crate::reply::{Rule, Standing, reply_line, told_line};
 use crate::view::{Boundary, view_of};
 use result_origin::Origin;
 use serna_kinds::{
     Cell, CellValue, Chars, Facet, Items, NameTable, NoMemory, NodeName, SourceView,
 };
-use source_tree::{Caret, CaretPlace, Primitive, SourceTree, SubItem};
+use source_tree::{Begun, Caret, CaretPlace, Moves, Primitive, SourceTree, SubItem};
 use std::alloc::{AllocError, Global};
 use std::marker::Model;
 use style_sheet::Style;
@@ -45,7 +46,7 @@ pub struct Editor {
     revision: u32,
     caret: Option<Caret>,
     view: Option<Vec<Boundary>>,
-    since: Vec<Primitive>,
+    since: Vec<Moves>,
 }
 
 impl Model for Editor {
@@ -202,7 +203,7 @@ impl Editor {
         }
     }
 
-    /// `at`: puts the caret at the first stop there that is at a place, carried through the prims since the show.
+    /// `at`: puts the caret at the first stop there that is at a place, moved as the changes since the show move it.
     fn put_at(&mut self, page: u32, line: u32, column: u32) -> Result<(), Rule>
         ensures state { self.new ≡ (put_at self.old page line column self.old.stops).0 }
         ensures answer { reply_of result ≡ (put_at self.old page line column self.old.stops).1 }
@@ -217,7 +218,10 @@ impl Editor {
             line as usize,
             column as usize,
         )?;
-        let place = self.carried_place(caret.place);
+        let place = moved_through(&self.since, caret.place);
+        if !self.is_there(place) {
+            return Err(Rule::Gone);
+        }
         self.caret = Some(Caret {
             place,
             occurrence: caret.occurrence,
@@ -225,16 +229,13 @@ impl Editor {
         Ok(())
     }
 
-    /// Where a place of the last view is in the present source.
-    fn carried_place(&self, place: CaretPlace) -> CaretPlace
-        requires { IsPlaceOf self.now.source (carried_through self.now.since place) }
-        ensures { result ≡ carried_through self.now.since place }
+    /// Whether the node of a place is in the source.
+    fn is_there(&self, place: CaretPlace) -> bool
+        ensures { result ≡ is_there self.now.source place }
     {
-        let mut place = place;
-        for prim in &self.since {
-            place = carried(prim, place);
-        }
-        place
+        let node = node_of(place);
+        let facet = Facet::Label;
+        self.source.read(Cell { node, facet }).is_some()
     }
 
     /// What `type` is answered.
@@ -299,7 +300,9 @@ impl Editor {
             return Err(TypeFault::Rule(Rule::Revisions));
         }
         let prim = Primitive::InsertText(node, at, text);
-        self.change(alloc, prim, CaretPlace::Text(node, at + more), occurrence)?;
+        let begun = Items::new(alloc);
+        let place = CaretPlace::Text(node, at + more);
+        self.change(alloc, prim, begun, place, occurrence)?;
         Ok(())
     }
 
@@ -331,30 +334,51 @@ impl Editor {
         let mut items = Items::new(alloc);
         items.push(SubItem::Text(number, text))?;
         let prim = Primitive::InsertChild(node, 0, items);
-        self.change(alloc, prim, CaretPlace::Text(number, more), occurrence)?;
+        let mut begun = Items::new(alloc);
+        begun.push(Begun {
+            element: node,
+            text: number,
+        })?;
+        let place = CaretPlace::Text(number, more);
+        self.change(alloc, prim, begun, place, occurrence)?;
         Ok(())
     }
 
-    /// Accepts a change by one prim, and puts the caret at a place of what it leaves.
+    /// Accepts a change by one prim, and puts the caret at a place of what it leaves. `begun` are the elements whose children it
+    /// changes and that begin with a text then.
     fn change(
         &mut self,
         alloc: Global,
         prim: Primitive,
+        begun: Items<Begun>,
         place: CaretPlace,
         occurrence: usize,
     ) -> Result<(), NoMemory>
         requires may { MayApply prim self.old.source }
-        requires sound { IsSomeSound (changed self.old prim place occurrence) }
-        requires few { self.old.revision < 50000 }
-        ensures ok { OnOk result (self.new ≡ changed self.old prim place occurrence) }
+        requires begun { begun ≡ begun_in (applied prim self.old.source) (flat_map parents_in (prim ∷ [])) }
+        requires sound { IsSomeSound (changed self.old (prim ∷ []) place occurrence) }
+        requires few { self.old.revision < change_limit }
+        ensures ok { OnOk result (self.new ≡ changed self.old (prim ∷ []) place occurrence) }
         ensures kept { OnErr result (self.new ≡ self.old) }
     {
         self.since.reserve(1)?;
-        self.source.apply(alloc, &prim)?;
-        self.since.push(prim).unwrap();
+        let mut prims = Items::new(alloc);
+        prims.push(prim)?;
+        self.source.apply(alloc, &prims.as_slice()[0])?;
+        self.since.push(Moves { prims, begun }).unwrap();
         self.revision += 1;
         self.caret = Some(Caret { place, occurrence });
         Ok(())
+    }
+}
+
+/// The node that a place is in.
+fn node_of(place: CaretPlace) -> NodeName
+    ensures { result ≡ node_of place }
+{
+    match place {
+        CaretPlace::Text(node, _) => node,
+        CaretPlace::Into(node) => node,
     }
 }
 
@@ -379,7 +403,8 @@ fn caret_boundary(boundaries: &[Boundary], caret: Caret) -> Option<Boundary>
 
 /// The caret at the first boundary there that is at a place. Where none is at a place, the first says why.
 fn caret_at(boundaries: &[Boundary], page: usize, line: usize, column: usize) -> Result<Caret, Rule>
-    ensures { (editor : Editor) → put_among editor (filter (stands_at page line column) (stops_of boundaries.now)) ≡ taken editor result }
+    ensures first { IfOk result (λ caret. IsHead caret (filter_map caret_of (filter (stands_at page line column) (stops_of boundaries.now)))) }
+    ensures answer { (editor : Editor) → put_among editor (filter (stands_at page line column) (stops_of boundaries.now)) ≡ taken editor result }
 {
     match first_caret(boundaries, page, line, column) {
         Some(index) => Ok(caret_of(boundaries, index)),

@@ -1,11 +1,11 @@
-ghost use Rattle.std.specs.Prelude.{◌≡◌, ◌≤◌};
-ghost use Rattle.source_tree.specs.Places.{carried, behind_removal, into_first};
+ghost use Rattle.std.specs.Prelude.{◌≡◌};
+ghost use Rattle.source_tree.specs.Places.{carried, carried_through, behind_removal, inside_since, moved, moved_through, IsNear};
+ghost use Rattle.plain_editor.specs.Sound.{StaysNear, GoesNear};
 ghost use Rattle.plain_editor.specs.Stops.{is_same_place, place_of};
-ghost use Rattle.live_editor.specs.Offsets.{offset_of};
 
 use result_origin::Origin;
 use serna_kinds::NodeName;
-use source_tree::{CaretPlace, Primitive, SubItem};
+use source_tree::{Begun, CaretPlace, Moves, Primitive};
 
 /// The place of the source that an origin is, if it is one.
 pub(crate) fn place_of(origin: Origin) -> Option<CaretPlace>
@@ -32,20 +32,68 @@ pub(crate) fn is_same_place(a: CaretPlace, b: CaretPlace) -> bool
     }
 }
 
-/// Where a place is after a prim.
-pub(crate) fn carried(prim: &Primitive, place: CaretPlace) -> CaretPlace
-    requires { offset_of (carried prim.now place) ≤ 16384 }
+/// Where a place is after some changes, one after another.
+pub(crate) fn moved_through(since: &[Moves], place: CaretPlace) -> CaretPlace
+    requires { GoesNear since.now place }
+    ensures { result ≡ moved_through since.now place }
+{
+    let mut place = place;
+    for moves in since {
+        place = moved(moves, place);
+    }
+    place
+}
+
+/// Where a place is after a change: carried through its primitives, and then, inside an element that begins with a text since,
+/// at the start of the text.
+fn moved(moves: &Moves, place: CaretPlace) -> CaretPlace
+    requires { StaysNear moves.now.prims place }
+    ensures { result ≡ moved moves.now place }
+{
+    match carried_through(moves.prims.as_slice(), place) {
+        CaretPlace::Text(node, at) => CaretPlace::Text(node, at),
+        CaretPlace::Into(node) => inside_since(moves.begun.as_slice(), node),
+    }
+}
+
+/// Where a place is after some prims, one after another.
+fn carried_through(prims: &[Primitive], place: CaretPlace) -> CaretPlace
+    requires { StaysNear prims.now place }
+    ensures { result ≡ carried_through prims.now place }
+{
+    let mut place = place;
+    for prim in prims {
+        place = carried(prim, place);
+    }
+    place
+}
+
+/// The inside of an element, or the start of the text that it begins with since a change.
+fn inside_since(begun: &[Begun], node: NodeName) -> CaretPlace
+    ensures { result ≡ inside_since begun.now node }
+{
+    for one in begun {
+        if node.0 == one.element.0 {
+            return CaretPlace::Text(one.text, 0);
+        }
+    }
+    CaretPlace::Into(node)
+}
+
+/// Where a place is after a prim: one in a text may move within it.
+fn carried(prim: &Primitive, place: CaretPlace) -> CaretPlace
+    requires { IsNear (carried prim.now place) }
     ensures { result ≡ carried prim.now place }
 {
     match place {
         CaretPlace::Text(node, at) => CaretPlace::Text(node, carried_offset(prim, node, at)),
-        CaretPlace::Into(node) => carried_inside(prim, node),
+        CaretPlace::Into(node) => CaretPlace::Into(node),
     }
 }
 
 /// Where a place in a text node is in it after a prim.
 fn carried_offset(prim: &Primitive, node: NodeName, at: usize) -> usize
-    requires { offset_of (carried prim.now (CaretPlace.Text node at)) ≤ 16384 }
+    requires { IsNear (carried prim.now (CaretPlace.Text node at)) }
     ensures { CaretPlace.Text node result ≡ carried prim.now (CaretPlace.Text node at) }
 {
     match prim {
@@ -78,36 +126,5 @@ fn behind_removal(from: usize, to: usize, at: usize) -> usize
         from
     } else {
         at
-    }
-}
-
-/// Where the inside of an element is after a prim.
-fn carried_inside(prim: &Primitive, node: NodeName) -> CaretPlace
-    ensures { result ≡ carried prim.now (CaretPlace.Into node) }
-{
-    match prim {
-        Primitive::InsertChild(parent, place, items) => {
-            if node.0 == parent.0 && *place == 0 {
-                into_first(node, items.as_slice())
-            } else {
-                CaretPlace::Into(node)
-            }
-        }
-        Primitive::InsertText(_, _, _) => CaretPlace::Into(node),
-        Primitive::RemoveText(_, _, _) => CaretPlace::Into(node),
-        Primitive::RemoveChild(_, _) => CaretPlace::Into(node),
-    }
-}
-
-/// An element's inside becomes the start of a text that is put in as its first child.
-fn into_first(node: NodeName, items: &[SubItem]) -> CaretPlace
-    ensures { result ≡ into_first node items.now }
-{
-    match items.first() {
-        Some(SubItem::Text(first, _)) => CaretPlace::Text(*first, 0),
-        Some(SubItem::Begin(_, _, _)) => CaretPlace::Into(node),
-        Some(SubItem::Comment(_, _)) => CaretPlace::Into(node),
-        Some(SubItem::Finish) => CaretPlace::Into(node),
-        None => CaretPlace::Into(node),
     }
 }

@@ -22,6 +22,8 @@ pub(crate) enum Rule {
     ComputedText,
     /// What stands there is the value of an attribute.
     AttributeText,
+    /// The node of what was seen there is no longer in the source.
+    Gone,
     /// There is no caret.
     NoCaret,
     /// A text node would have more than 16,384 bytes.
@@ -44,6 +46,7 @@ impl Rule {
             Rule::FixedText => "fixed",
             Rule::ComputedText => "computed",
             Rule::AttributeText => "attribute",
+            Rule::Gone => "gone",
             Rule::NoCaret => "no-caret",
             Rule::Long => "long",
             Rule::Nodes => "nodes",

@@ -23,15 +23,16 @@ use Rattle.source_tree.specs.declared.prim.Caret.{Caret}
 use Rattle.source_tree.specs.declared.prim.CaretPlace.{CaretPlace}
 use Rattle.source_tree.specs.declared.prim.CaretPlace.TheVariants as place
 use Rattle.source_tree.specs.Prims.{applied, with_tree, IsElement}
-use Rattle.source_tree.specs.Places.{IsPlaceOf}
+use Rattle.serna_kinds.specs.Limits.{text_limit, node_limit, change_limit}
+use Rattle.source_tree.specs.Places.{IsPlaceOf, is_there, moved_through}
 use Rattle.source_tree.proofs.Applied.{spot_text}
 use Rattle.style_sheet.specs.declared.style.Rule.{Rule as TemplateRule}
 use Rattle.plain_editor.specs.Commands.{Command, command_of}
 use Rattle.plain_editor.specs.Commands as command
 use Rattle.plain_editor.specs.Stops.{Stop}
-use Rattle.plain_editor.specs.Editor.{Editor, Reply, Done, Refused, Rule, Long, Nodes, Revisions, stands_at, caret_of, put_first, put_at, changed, bytes_of, bytes_at, typed_at, typed, told, obeyed, step}
+use Rattle.plain_editor.specs.Editor.{Editor, Reply, Done, Refused, Rule, Long, Nodes, Revisions, Gone, stands_at, caret_of, with_caret, put_there, put_first, put_at, changed, bytes_of, bytes_at, typed_at, typed, told, obeyed, step}
 use Rattle.plain_editor.specs.Sound.{IsCaretOf, IsSound}
-use Rattle.plain_editor.proofs.PlacesKept.{text_at-with_text}
+use Rattle.source_tree.proofs.PlacesKept.{text_at-with_text}
 use Rattle.plain_editor.specs.Keystrokes.{HasOtherText, HasNewFirstText}
 
 numbers-with_text : (n : ℕ) (change : List ℕ → List ℕ) (f : Forest) → numbers (with_text n change f) ≡ numbers f
@@ -189,7 +190,7 @@ typed_into names s parent number text proper is new =
 abbrev Answer : Type 0
 Answer = Editor × Reply
 
-done_if : (P : Editor → Type 0) (b : Bool) (rule : Rule) (editor : Editor) (x : Answer) → (x.1 ≡ Done → P x.0) → (if b then (editor, Refused rule) else x).1 ≡ Done → P (if b then (editor, Refused rule) else x).0
+pub done_if : (P : Editor → Type 0) (b : Bool) (rule : Rule) (editor : Editor) (x : Answer) → (x.1 ≡ Done → P x.0) → (if b then (editor, Refused rule) else x).1 ≡ Done → P (if b then (editor, Refused rule) else x).0
 done_if P true rule editor x later e = cc
 done_if P false rule editor x later e = later e
 
@@ -209,7 +210,7 @@ into_done names editor text number occurrence proper is e =
     (λ _. typed_into names editor.source number (named (editor.source.made + 1)) text proper is refl))) e
 
 -- from a command line
-typing_is : (rules : List TemplateRule) (editor : Editor) (line text : List ℕ) (caret : Caret) → command_of line ≡ command.Typing text → editor.caret ≡ Some caret → step rules editor line ≡ typed_at editor text caret.place caret.occurrence
+pub typing_is : (rules : List TemplateRule) (editor : Editor) (line text : List ℕ) (caret : Caret) → command_of line ≡ command.Typing text → editor.caret ≡ Some caret → step rules editor line ≡ typed_at editor text caret.place caret.occurrence
 typing_is rules editor line text caret says has = ap (obeyed rules editor) says ∙ ap (typed editor text) has
 
 pub text_typed : (rules : List TemplateRule) (editor : Editor) (line text old : List ℕ) (number : NodeName) (at occurrence : ℕ) → command_of line ≡ command.Typing text →
@@ -240,24 +241,31 @@ keeps_if editor false rule x later = later
 keeps_done : (editor left : Editor) → Keeps editor (left, Done)
 keeps_done editor left = λ rule e. cc
 
+keeps_else : (editor left : Editor) (b : Bool) → Keeps editor (if b then (left, Done) else (editor, Refused Gone))
+keeps_else editor left true = λ rule e. cc
+keeps_else editor left false = λ rule e. refl
+
 keeps_typing : (editor : Editor) (text : List ℕ) (here : CaretPlace) (occurrence : ℕ) → Keeps editor (typed_at editor text here occurrence)
 keeps_typing editor text (place.Text number at) occurrence =
-    let left : Editor = changed editor (InsertText number at text) (place.Text number (at + bytes_of text)) occurrence in
-    keeps_if editor (nat_lt 16384 (bytes_at editor.source number.0 + bytes_of text)) Long (if nat_le 50000 editor.revision then (editor, Refused Revisions) else (left, Done))
-    (keeps_if editor (nat_le 50000 editor.revision) Revisions (left, Done) (keeps_done editor left))
+    let left : Editor = changed editor (InsertText number at text ∷ []) (place.Text number (at + bytes_of text)) occurrence in
+    keeps_if editor (nat_lt text_limit (bytes_at editor.source number.0 + bytes_of text)) Long (if nat_le change_limit editor.revision then (editor, Refused Revisions) else (left, Done))
+    (keeps_if editor (nat_le change_limit editor.revision) Revisions (left, Done) (keeps_done editor left))
 keeps_typing editor text (place.Into number) occurrence =
     let new : NodeName = named (editor.source.made + 1) in
-    let left : Editor = changed editor (InsertChild number 0 (item.Text new text ∷ [])) (place.Text new (bytes_of text)) occurrence in
-    let last : Answer = if nat_le 50000 editor.revision then (editor, Refused Revisions) else (left, Done) in
-    keeps_if editor (nat_lt 16384 (bytes_of text)) Long (if nat_le 1000000 editor.source.made then (editor, Refused Nodes) else last)
-    (keeps_if editor (nat_le 1000000 editor.source.made) Nodes last (keeps_if editor (nat_le 50000 editor.revision) Revisions (left, Done) (keeps_done editor left)))
+    let left : Editor = changed editor (InsertChild number 0 (item.Text new text ∷ []) ∷ []) (place.Text new (bytes_of text)) occurrence in
+    let last : Answer = if nat_le change_limit editor.revision then (editor, Refused Revisions) else (left, Done) in
+    keeps_if editor (nat_lt text_limit (bytes_of text)) Long (if nat_le node_limit editor.source.made then (editor, Refused Nodes) else last)
+    (keeps_if editor (nat_le node_limit editor.source.made) Nodes last (keeps_if editor (nat_le change_limit editor.revision) Revisions (left, Done) (keeps_done editor left)))
 
 keeps_typed : (editor : Editor) (text : List ℕ) (caret : Option Caret) → Keeps editor (typed editor text caret)
 keeps_typed editor text None = λ rule e. refl
 keeps_typed editor text (Some caret) = keeps_typing editor text caret.place caret.occurrence
 
+keeps_there : (editor : Editor) (here : CaretPlace) (occurrence : ℕ) → Keeps editor (put_there editor here occurrence)
+keeps_there editor here occurrence = keeps_else editor (with_caret editor here occurrence) (is_there editor.source here)
+
 keeps_first : (editor : Editor) (here : List Stop) (carets : List Caret) → Keeps editor (put_first editor here carets)
-keeps_first editor here (caret ∷ carets) = λ rule e. cc
+keeps_first editor here (caret ∷ carets) = keeps_there editor (moved_through editor.since caret.place) caret.occurrence
 keeps_first editor [] [] = λ rule e. refl
 keeps_first editor (stop ∷ stops) [] = λ rule e. refl
 

@@ -4,8 +4,6 @@ pub mod Renamed
 pub mod Rows
 pub mod SaidTexts
 pub mod Shown
-pub mod TextPlaces
-pub mod PlacesKept
 pub mod Encoded
 pub mod Marks
 pub mod Runs
@@ -13,3 +11,6 @@ pub mod Seen
 pub mod Steps
 pub mod Keystrokes
 pub mod Printing
+pub mod Boundaries
+pub mod Choosing
+pub mod Carets

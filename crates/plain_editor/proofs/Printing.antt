@@ -6,7 +6,7 @@ use Rattle.source_tree.specs.declared.prim.Caret.{Caret}
 use Rattle.source_tree.specs.declared.prim.CaretPlace.{CaretPlace}
 use Rattle.source_tree.specs.declared.prim.CaretPlace.TheVariants.{Text, Into}
 use Rattle.source_tree.specs.declared.prim.Primitive.TheVariants.{InsertText}
-use Rattle.source_tree.specs.Places.{IsPlaceOf}
+use Rattle.source_tree.specs.Places.{IsPlaceOf, is_there, moved_through}
 use Rattle.source_tree.specs.Printing.{IsPrintable}
 use Rattle.source_tree.proofs.PrintedBack.{stays_printable}
 use Rattle.source_model.specs.Proper.{IsProper}
@@ -44,7 +44,7 @@ caret_prints names editor text None proper is good old = old
 caret_prints names editor text (Some caret) proper is good old = typed_prints names editor text caret.place caret.occurrence proper is good old
 
 first_prints : (names : List NameParts) (editor : Editor) (here : List Stop) (carets : List Caret) → IsPrintable names editor.source → Prints names (put_first editor here carets)
-first_prints names editor here (caret ∷ carets) old = old
+first_prints names editor here (caret ∷ carets) old = prints_if names (is_there editor.source (moved_through editor.since caret.place)) _ _ old (λ gone. old)
 first_prints names editor [] [] old = old
 first_prints names editor (stop ∷ stops) [] old = old
 

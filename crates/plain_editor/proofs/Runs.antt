@@ -1,5 +1,5 @@
 -- Each stop of a view that is at a place stands at a place of its source.
-use Rattle.std.proofs.Common.{◌≡◌, ℕ, ◌+◌, List, [], ◌∷◌, ◌++◌, map, length, Bool, true, false, if◌then◌else◌, Some, None, refl, sym, ap, ◌∙◌, subst, arith, append_assoc}
+use Rattle.std.proofs.Common.{◌≡◌, ℕ, ◌+◌, List, [], ◌∷◌, ◌++◌, map, length, Bool, true, false, if◌then◌else◌, Option, Some, None, refl, sym, ap, ◌∙◌, subst, arith, append_assoc}
 use Rattle.std.proofs.lemmas.List.{append-nil}
 use Rattle.std.specs.List.{AllByRecursion}
 use Rattle.std.specs.Char.{encode_utf8}
@@ -7,6 +7,8 @@ use Rattle.std.specs.Str.{chars}
 use Rattle.serna_kinds.specs.Names.{NameParts}
 use Rattle.serna_kinds.specs.declared.cells.NodeName.{NodeName}
 use Rattle.source_model.specs.Source.{Source}
+use Rattle.source_tree.specs.declared.prim.CaretPlace.{CaretPlace}
+use Rattle.source_tree.specs.Places.{IsPlaceOf}
 use Rattle.source_model.specs.Changes.{text_at}
 use Rattle.result_origin.specs.declared.origin.Origin.{Origin}
 use Rattle.result_origin.specs.declared.origin.Origin.TheVariants as origin
@@ -17,14 +19,18 @@ use Rattle.template_run.specs.Batch.{batch}
 use Rattle.simple_pages.specs.Groups.{ShownRun, runs_in, is_root, lines_in}
 use Rattle.simple_pages.specs.Pages.{whole_part, line_at, lines_from, page_lines}
 use Rattle.plain_editor.specs.Stops.{Boundary, behind_start, place_of, run_boundaries, part_boundaries, line_boundaries, Stop, stops_behind, view_stops}
-use Rattle.plain_editor.specs.Sound.{IsLive}
-use Rattle.plain_editor.proofs.TextPlaces.{size, size-append}
+use Rattle.source_tree.proofs.TextPlaces.{size, size-append}
 use Rattle.plain_editor.proofs.Encoded.{reads_whole}
 use Rattle.plain_editor.proofs.Marks.{all_both, IsFrom, AreFrom, batch_from, AreRunsFrom, AreGroupsFrom, runs_from, lines_from_marks}
 
+-- where something is at a place, it is one of the source
+abbrev pub IsPlaceIf : Source → Option CaretPlace → Type 0
+IsPlaceIf source (Some place) = IsPlaceOf source place
+IsPlaceIf source None = Unit {0}
+
 -- each boundary that is at a place stands at one of the source
 abbrev IsLiveBoundary : Source → Boundary → Type 0
-IsLiveBoundary s here = IsLive s [] (place_of here.origin)
+IsLiveBoundary s here = IsPlaceIf s (place_of here.origin)
 
 abbrev AreLiveBoundaries : Source → List Boundary → Type 0
 AreLiveBoundaries s bs = AllByRecursion (IsLiveBoundary s) bs
@@ -42,9 +48,9 @@ text_live s n text before (c ∷ cs) page line column more is whole at = (
 -- where what comes from a run is at no place
 nowhere_live : (s : Source) (from : Origin) → ((more : ℕ) → place_of (behind_start more from) ≡ None) → (page line column more : ℕ) (text : List ℕ) →
     AreLiveBoundaries s (run_boundaries page line column more from text)
-nowhere_live s from nowhere page line column more [] = (subst (IsLive s []) (sym (nowhere more)) tt, tt)
+nowhere_live s from nowhere page line column more [] = (subst (IsPlaceIf s) (sym (nowhere more)) tt, tt)
 nowhere_live s from nowhere page line column more (c ∷ cs) =
-    (subst (IsLive s []) (sym (nowhere more)) tt, nowhere_live s from nowhere page line (column + 1) (more + length (encode_utf8 c)) cs)
+    (subst (IsPlaceIf s) (sym (nowhere more)) tt, nowhere_live s from nowhere page line (column + 1) (more + length (encode_utf8 c)) cs)
 
 run_live : (s : Source) (text : List ℕ) (from : Origin) (page line column : ℕ) → IsFrom s text from → AreLiveBoundaries s (run_boundaries page line column 0 from text)
 run_live s text (origin.Text n at) page line column is =
@@ -74,11 +80,11 @@ page_live : (s : Source) (b : Bool) (marks : List Mark) → AreFrom s marks → 
 page_live s true marks all = line_live s 1 1 0 (lines_in marks) (lines_from_marks s marks all)
 page_live s false marks all = line_live s 1 1 0 (runs_in marks ∷ []) (runs_from s marks all, tt)
 
-stops_live : (s : Source) (before bs : List Boundary) → AreLiveBoundaries s bs → AllByRecursion (λ (stop : Stop). IsLive s [] (place_of stop.origin)) (stops_behind before bs)
+stops_live : (s : Source) (before bs : List Boundary) → AreLiveBoundaries s bs → AllByRecursion (λ (stop : Stop). IsPlaceIf s (place_of stop.origin)) (stops_behind before bs)
 stops_live s before [] all = tt
 stops_live s before (b ∷ bs) all = (all.0, stops_live s (before ++ b ∷ []) bs all.1)
 
-pub view_live : (names : List NameParts) (rules : List Rule) (s : Source) → AllByRecursion (λ (stop : Stop). IsLive s [] (place_of stop.origin)) (view_stops names rules s)
+pub view_live : (names : List NameParts) (rules : List Rule) (s : Source) → AllByRecursion (λ (stop : Stop). IsPlaceIf s (place_of stop.origin)) (view_stops names rules s)
 unfolding view_stops
 view_live names rules s =
     let marks : List Mark = batch names rules s in

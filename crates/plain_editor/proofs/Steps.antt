@@ -13,78 +13,95 @@ use Rattle.source_model.specs.Cells.{Spot, spot_in, spot_of, or_else, named}
 use Rattle.source_model.specs.Proper.{AreNodes, BeginsNoText, IsProper}
 use Rattle.source_model.proofs.Spots.{if_same, if_other}
 use Rattle.source_tree.specs.declared.prim.Primitive.{Primitive}
-use Rattle.source_tree.specs.declared.prim.Primitive.TheVariants.{InsertText, RemoveText, InsertChild, RemoveChild}
+use Rattle.source_tree.specs.declared.prim.Primitive.TheVariants.{InsertText, InsertChild}
+use Rattle.source_tree.specs.declared.prim.Moves.{Moves}
 use Rattle.source_tree.specs.declared.prim.SubItem.TheVariants as item
 use Rattle.source_tree.specs.declared.prim.Caret.{Caret}
 use Rattle.source_tree.specs.declared.prim.CaretPlace.{CaretPlace}
 use Rattle.source_tree.specs.declared.prim.CaretPlace.TheVariants.{Text, Into}
 use Rattle.source_tree.specs.Prims.{applied, MayApply, KeepsProper, HasPlace}
-use Rattle.source_tree.specs.Places.{IsPlaceOf, carried, carried_through}
+use Rattle.source_tree.specs.Places.{IsPlaceOf, IsNear, Lasts, is_there, moved, moved_through, moves_of}
 use Rattle.source_tree.proofs.ProperKept.{proper_kept}
 use Rattle.style_sheet.specs.declared.style.Rule.{Rule as TemplateRule}
-use Rattle.plain_editor.specs.Stops.{Stop, place_of}
+use Rattle.plain_editor.specs.Stops.{Stop, place_of, view_stops}
 use Rattle.plain_editor.specs.Plain.{is_plain}
 use Rattle.plain_editor.specs.Commands.{Command, at_place, at_parts, read_number, typing, command_of, behind_front, parts_of, show_word, where_word, source_word, at_word, type_word}
 use Rattle.plain_editor.specs.Commands as command
-use Rattle.plain_editor.specs.Editor.{Editor, Reply, opened, stands_at, caret_of, put_first, put_at, changed, bytes_of, bytes_at, typed_at, typed, told, obeyed, step}
-use Rattle.plain_editor.specs.Sound.{IsCaretOf, IsLive, AreLive, IsInsertion, IsSound}
+use Rattle.serna_kinds.specs.Limits.{text_limit, node_limit}
+use Rattle.plain_editor.specs.Editor.{Editor, Reply, Done, Refused, Gone, opened, with_caret, put_there, stands_at, caret_of, put_first, put_at, changed, bytes_of, bytes_at, typed_at, typed, told, obeyed, step}
+use Rattle.plain_editor.specs.Sound.{IsCaretOf, IsLive, AreLive, StaysNear, GoesNear, IsSound}
 use Rattle.tree_lines.specs.Writable.{IsText}
 use Rattle.tree_lines.proofs.MeantTexts.{meant-text}
 use Rattle.plain_editor.proofs.Plain.{plain_meant, is_line-plain}
 use Rattle.plain_editor.proofs.Marks.{all_filter}
-use Rattle.plain_editor.proofs.Runs.{view_live}
-use Rattle.plain_editor.proofs.PlacesKept.{place_kept, behind_piece, behind_new}
+use Rattle.plain_editor.proofs.Runs.{IsPlaceIf, view_live}
+use Rattle.source_tree.proofs.ShortTexts.{or_spot}
+use Rattle.source_tree.proofs.PlacesKept.{place_lasts, moved_lasts, carried_near, behind_piece, behind_new}
 
-abbrev IsCaretLive : Source → List Primitive → Caret → Type 0
-IsCaretLive s since caret = IsPlaceOf s (carried_through since caret.place)
+abbrev pub IsCaretLive : Source → List Moves → Caret → Type 0
+IsCaretLive s since caret = IsLive s since (Some caret.place)
 
-caret_more : (s : Source) (since : List Primitive) (here : Option CaretPlace) (occurrence : ℕ) (carets : List Caret) → IsLive s since here → AllByRecursion (IsCaretLive s since) carets →
+caret_more : (s : Source) (since : List Moves) (here : Option CaretPlace) (occurrence : ℕ) (carets : List Caret) → IsLive s since here → AllByRecursion (IsCaretLive s since) carets →
     AllByRecursion (IsCaretLive s since) (cons_option (option_map (λ place. record { place = place; occurrence = occurrence }) here) carets)
 caret_more s since (Some place) occurrence carets is all = (is, all)
 caret_more s since None occurrence carets is all = all
 
-abbrev IsStopLive : Source → List Primitive → Stop → Type 0
+abbrev IsStopLive : Source → List Moves → Stop → Type 0
 IsStopLive s since stop = IsLive s since (place_of stop.origin)
 
-all_carets : (s : Source) (since : List Primitive) (stops : List Stop) → AllByRecursion (IsStopLive s since) stops → AllByRecursion (IsCaretLive s since) (filter_map caret_of stops)
+all_carets : (s : Source) (since : List Moves) (stops : List Stop) → AllByRecursion (IsStopLive s since) stops → AllByRecursion (IsCaretLive s since) (filter_map caret_of stops)
 all_carets s since [] all = tt
 all_carets s since (stop ∷ stops) all = caret_more s since (place_of stop.origin) stop.occurrence (filter_map caret_of stops) all.0 (all_carets s since stops all.1)
 
--- the places after one prim more
-through_more : (since : List Primitive) (prim : Primitive) (place : CaretPlace) → carried_through (since ++ prim ∷ []) place ≡ carried prim (carried_through since place)
-through_more [] prim place = refl
-through_more (p ∷ since) prim place = through_more since prim (carried p place)
+pub carets_live : (s : Source) (since : List Moves) (page line column : ℕ) (stops : List Stop) → AllByRecursion (IsStopLive s since) stops →
+    AllByRecursion (IsCaretLive s since) (filter_map caret_of (filter (stands_at page line column) stops))
+carets_live s since page line column stops all = all_carets s since (filter (stands_at page line column) stops) (all_filter (IsStopLive s since) (stands_at page line column) stops all)
 
-live_place : (names : List NameParts) (s : Source) (since : List Primitive) (prim : Primitive) (here : Option CaretPlace) → IsProper names s → MayApply prim s → IsLive s since here →
-    IsLive (applied prim s) (since ++ prim ∷ []) here
-live_place names s since prim (Some place) proper may is =
-    subst (IsPlaceOf (applied prim s)) (sym (through_more since prim place)) (place_kept names s prim (carried_through since place) proper may is)
-live_place names s since prim None proper may is = tt
+-- the places after one change more
+through_more : (since : List Moves) (moves : Moves) (place : CaretPlace) → moved_through (since ++ moves ∷ []) place ≡ moved moves (moved_through since place)
+through_more [] moves place = refl
+through_more (m ∷ since) moves place = through_more since moves (moved m place)
 
-live_stops : (names : List NameParts) (s : Source) (since : List Primitive) (prim : Primitive) (stops : List Stop) → IsProper names s → MayApply prim s →
-    AllByRecursion (IsStopLive s since) stops → AllByRecursion (IsStopLive (applied prim s) (since ++ prim ∷ [])) stops
-live_stops names s since prim [] proper may all = tt
-live_stops names s since prim (stop ∷ stops) proper may all = (live_place names s since prim (place_of stop.origin) proper may all.0, live_stops names s since prim stops proper may all.1)
+near_more : (since : List Moves) (moves : Moves) (place : CaretPlace) → GoesNear since place → StaysNear moves.prims (moved_through since place) → IsNear (moved moves (moved_through since place)) →
+    GoesNear (since ++ moves ∷ []) place
+near_more [] moves place near way end = (way, end)
+near_more (m ∷ since) moves place near way end = (near.0, near_more since moves (moved m place) near.1 way end)
 
-live_view : (names : List NameParts) (s : Source) (since : List Primitive) (prim : Primitive) (stops : Option (List Stop)) → IsProper names s → MayApply prim s → AreLive s since stops →
-    AreLive (applied prim s) (since ++ prim ∷ []) stops
-live_view names s since prim None proper may all = tt
-live_view names s since prim (Some stops) proper may all = live_stops names s since prim stops proper may all
+live_place : (names : List NameParts) (s : Source) (since : List Moves) (prim : Primitive) (here : Option CaretPlace) → IsProper names s → MayApply prim s → KeepsProper names prim s → IsLive s since here →
+    IsLive (applied prim s) (since ++ moves_of (prim ∷ []) (applied prim s) ∷ []) here
+live_place names s since prim (Some place) proper may keeps is =
+    let moves : Moves = moves_of (prim ∷ []) (applied prim s) in
+    let now : CaretPlace = moved_through since place in
+    let later = moved_lasts names s prim now proper may keeps is.1 in
+    (near_more since moves place is.0 (is.1.near, carried_near names s prim now proper may keeps is.1) later.near, subst (Lasts (applied prim s)) (sym (through_more since moves place)) later)
+live_place names s since prim None proper may keeps is = tt
 
-one_more : (s : Source) (since : List Primitive) (prim : Primitive) → MayApply prim s → AllByRecursion IsInsertion since → AllByRecursion IsInsertion (since ++ prim ∷ [])
-one_more s [] (InsertText text place piece) may all = (tt, tt)
-one_more s [] (RemoveText text from to) may all = absurd may
-one_more s [] (InsertChild parent place items) may all = (tt, tt)
-one_more s [] (RemoveChild parent place) may all = absurd may
-one_more s (p ∷ since) prim may all = (all.0, one_more s since prim may all.1)
+live_stops : (names : List NameParts) (s : Source) (since : List Moves) (prim : Primitive) (stops : List Stop) → IsProper names s → MayApply prim s → KeepsProper names prim s →
+    AllByRecursion (IsStopLive s since) stops → AllByRecursion (IsStopLive (applied prim s) (since ++ moves_of (prim ∷ []) (applied prim s) ∷ [])) stops
+live_stops names s since prim [] proper may keeps all = tt
+live_stops names s since prim (stop ∷ stops) proper may keeps all =
+    (live_place names s since prim (place_of stop.origin) proper may keeps all.0, live_stops names s since prim stops proper may keeps all.1)
+
+live_view : (names : List NameParts) (s : Source) (since : List Moves) (prim : Primitive) (stops : Option (List Stop)) → IsProper names s → MayApply prim s → KeepsProper names prim s → AreLive s since stops →
+    AreLive (applied prim s) (since ++ moves_of (prim ∷ []) (applied prim s) ∷ []) stops
+live_view names s since prim None proper may keeps all = tt
+live_view names s since prim (Some stops) proper may keeps all = live_stops names s since prim stops proper may keeps all
+
+-- the stops of a new show
+fresh_place : (names : List NameParts) (s : Source) (here : Option CaretPlace) → IsProper names s → IsPlaceIf s here → IsLive s [] here
+fresh_place names s (Some place) proper is = let lasts = place_lasts names s place proper is in (lasts.near, lasts)
+fresh_place names s None proper is = tt
+
+pub fresh_stops : (names : List NameParts) (s : Source) (stops : List Stop) → IsProper names s → AllByRecursion (λ (stop : Stop). IsPlaceIf s (place_of stop.origin)) stops → AreLive s [] (Some stops)
+fresh_stops names s [] proper all = tt
+fresh_stops names s (stop ∷ stops) proper all = (fresh_place names s (place_of stop.origin) proper all.0, fresh_stops names s stops proper all.1)
 
 changed_sound : (names : List NameParts) (editor : Editor) (prim : Primitive) (place : CaretPlace) (occurrence : ℕ) → IsSound names editor → MayApply prim editor.source →
-    KeepsProper names prim editor.source → IsPlaceOf (applied prim editor.source) place → IsSound names (changed editor prim place occurrence)
+    KeepsProper names prim editor.source → IsPlaceOf (applied prim editor.source) place → IsSound names (changed editor (prim ∷ []) place occurrence)
 changed_sound names editor prim place occurrence sound may keeps is = record {
   proper = proper_kept names editor.source prim sound.proper may keeps;
   caret = is;
-  stops = live_view names editor.source editor.since prim editor.stops sound.proper may sound.stops;
-  insertions = one_more editor.source editor.since prim may sound.insertions;
+  stops = live_view names editor.source editor.since prim editor.stops sound.proper may keeps sound.stops;
 }
 
 sound_if : (names : List NameParts) (b : Bool) (x y : Editor × Reply) → (b ≡ true → IsSound names x.0) → (b ≡ false → IsSound names y.0) → IsSound names (if b then x else y).0
@@ -92,9 +109,14 @@ sound_if names true x y f g = f refl
 sound_if names false x y f g = g refl
 
 -- `at`
+there_sound : (names : List NameParts) (editor : Editor) (place : CaretPlace) (occurrence : ℕ) → IsSound names editor → Lasts editor.source place → IsSound names (put_there editor place occurrence).0
+there_sound names editor place occurrence sound lasts =
+    sound_if names (is_there editor.source place) (with_caret editor place occurrence, Done) (editor, Refused Gone)
+    (λ there. record { proper = sound.proper; caret = lasts.there there; stops = sound.stops }) (λ gone. sound)
+
 put_first_sound : (names : List NameParts) (editor : Editor) (here : List Stop) (carets : List Caret) → IsSound names editor → AllByRecursion (IsCaretLive editor.source editor.since) carets →
     IsSound names (put_first editor here carets).0
-put_first_sound names editor here (caret ∷ carets) sound all = record { proper = sound.proper; caret = all.0; stops = sound.stops; insertions = sound.insertions }
+put_first_sound names editor here (caret ∷ carets) sound all = there_sound names editor (moved_through editor.since caret.place) caret.occurrence sound all.0.1
 put_first_sound names editor [] [] sound all = sound
 put_first_sound names editor (stop ∷ stops) [] sound all = sound
 
@@ -103,14 +125,9 @@ pub put_at_sound : (names : List NameParts) (editor : Editor) (page line column 
 put_at_sound names editor page line column None sound all = sound
 put_at_sound names editor page line column (Some stops) sound all =
     let here : List Stop = filter (stands_at page line column) stops in
-    put_first_sound names editor here (filter_map caret_of here) sound
-    (all_carets editor.source editor.since here (all_filter (IsStopLive editor.source editor.since) (stands_at page line column) stops all))
+    put_first_sound names editor here (filter_map caret_of here) sound (carets_live editor.source editor.since page line column stops all)
 
 -- the children of a node of a proper source
-pub or_spot : (o p : Option Spot) (spot : Spot) → or_else o p ≡ Some spot → (o ≡ Some spot) ⊎ (p ≡ Some spot)
-or_spot None p spot e = inr e
-or_spot (Some x) p spot e = inl e
-
 abbrev kids_at : Option Spot → Forest
 kids_at None = source.none
 kids_at (Some spot) = spot.kids
@@ -144,25 +161,25 @@ spot_nodes names s n spot proper found =
 
 -- `type`: a text that is not too long may be put in
 pub text_may : (editor : Editor) (text : List ℕ) (number : NodeName) (at : ℕ) → IsPlaceOf editor.source (Text number at) →
-    nat_lt 16384 (bytes_at editor.source number.0 + bytes_of text) ≡ false → MayApply (InsertText number at text) editor.source
+    nat_lt text_limit (bytes_at editor.source number.0 + bytes_of text) ≡ false → MayApply (InsertText number at text) editor.source
 text_may editor text number at is short =
     let bytes : bytes_at editor.source number.0 ≡ bytes_of is.0 = ap (λ (o : Option (List ℕ)). elim o [ None ↦ 0 | Some text ↦ bytes_of text ]) is.1 in
-    let within : bytes_at editor.source number.0 + bytes_of text ≤ 16384 = ltb-false 16384 (bytes_at editor.source number.0 + bytes_of text) short in
+    let within : bytes_at editor.source number.0 + bytes_of text ≤ text_limit = ltb-false text_limit (bytes_at editor.source number.0 + bytes_of text) short in
     (is.0, is.1, is.2, omega (arith, bytes, within))
 
 abbrev pub new_text : Editor → List ℕ → NodeName → Primitive
 new_text editor text number = InsertChild number 0 (item.Text (named (editor.source.made + 1)) text ∷ [])
 
 pub into_may : (editor : Editor) (text : List ℕ) (number : NodeName) → IsPlaceOf editor.source (Into number) →
-    nat_lt 16384 (bytes_of text) ≡ false → nat_le 1000000 editor.source.made ≡ false → MayApply (new_text editor text number) editor.source
+    nat_lt text_limit (bytes_of text) ≡ false → nat_le node_limit editor.source.made ≡ false → MayApply (new_text editor text number) editor.source
 into_may editor text number is short room =
-    ((is.0, is.1, is.2, omega arith), (refl, ltb-false 16384 (bytes_of text) short, refl), leb-false 1000000 editor.source.made room)
+    ((is.0, is.1, is.2, omega arith), (refl, ltb-false text_limit (bytes_of text) short, refl), leb-false node_limit editor.source.made room)
 
 pub into_keeps : (names : List NameParts) (editor : Editor) (text : List ℕ) (number : NodeName) → IsProper names editor.source → IsPlaceOf editor.source (Into number) →
-    text ≢ [] → nat_lt 16384 (bytes_of text) ≡ false → KeepsProper names (new_text editor text number) editor.source
+    text ≢ [] → nat_lt text_limit (bytes_of text) ≡ false → KeepsProper names (new_text editor text number) editor.source
 into_keeps names editor text number proper is some short = λ spot found.
     let both : Some is.0 ≡ Some spot = sym is.1 ∙ found in
-    (some, ltb-false 16384 (bytes_of text) short, refl, subst BeginsNoText (ap kids_at both) is.3, spot_nodes names editor.source number.0 spot proper found)
+    (some, ltb-false text_limit (bytes_of text) short, refl, subst BeginsNoText (ap kids_at both) is.3, spot_nodes names editor.source number.0 spot proper found)
 
 pub typed_text_sound : (names : List NameParts) (editor : Editor) (text : List ℕ) (number : NodeName) (at occurrence : ℕ) → IsSound names editor → IsPlaceOf editor.source (Text number at) →
     IsSound names (typed_at editor text (Text number at) occurrence).0
@@ -242,7 +259,7 @@ told_sound names editor None sound = sound
 told_sound names editor (Some caret) sound = sound
 
 pub obeyed_sound : (rules : List TemplateRule) (names : List NameParts) (editor : Editor) (said_command : Command) → IsSaid said_command → IsSound names editor → IsSound names (obeyed rules editor said_command).0
-obeyed_sound rules names editor command.Show is sound = record { proper = sound.proper; caret = sound.caret; stops = view_live editor.names rules editor.source; insertions = tt }
+obeyed_sound rules names editor command.Show is sound = record { proper = sound.proper; caret = sound.caret; stops = fresh_stops names editor.source (view_stops editor.names rules editor.source) sound.proper (view_live editor.names rules editor.source) }
 obeyed_sound rules names editor (command.At page line column) is sound = put_at_sound names editor page line column editor.stops sound sound.stops
 obeyed_sound rules names editor (command.Typing text) is sound = typed_sound names editor text editor.caret sound sound.caret is.0
 obeyed_sound rules names editor command.Where is sound = told_sound names editor editor.caret sound
@@ -253,6 +270,6 @@ pub step_sound : (rules : List TemplateRule) (names : List NameParts) (editor : 
 step_sound rules names editor line sound = obeyed_sound rules names editor (command_of line) (said line) sound
 
 pub opened_sound : (names : List NameParts) (s : Source) → IsProper names s → IsSound names (opened names s)
-opened_sound names s proper = record { proper = proper; caret = tt; stops = tt; insertions = tt }
+opened_sound names s proper = record { proper = proper; caret = tt; stops = tt }
 
 pub ruleset all = opened_sound

@@ -2,6 +2,7 @@
 -- gives the view of the whole source anew. `rules` are those of the stylesheet, which never change (this project's own).
 use Rattle.std.specs.Prelude.{ℕ, ◌+◌, nat_lt, nat_le, Bool, false, List, [], ◌∷◌, ◌++◌, filter, filter_map, length, Option, Some, None, codes, decimal, encode_utf8_all, if◌then◌else◌, ◌&&◌, ◌==◌}
 use Rattle.std.specs.Option.{option_map}
+use Rattle.serna_kinds.specs.Limits.{text_limit, node_limit, change_limit}
 use Rattle.serna_kinds.specs.Names.{NameParts}
 use Rattle.source_model.specs.Source.{Source}
 use Rattle.source_model.specs.Cells.{named}
@@ -11,9 +12,10 @@ use Rattle.source_tree.specs.declared.prim.CaretPlace.TheVariants.{Text, Into}
 use Rattle.source_tree.specs.declared.prim.Caret.{Caret}
 use Rattle.source_tree.specs.declared.prim.Primitive.{Primitive}
 use Rattle.source_tree.specs.declared.prim.Primitive.TheVariants.{InsertText, InsertChild}
+use Rattle.source_tree.specs.declared.prim.Moves.{Moves}
 use Rattle.source_tree.specs.declared.prim.SubItem.TheVariants as item
-use Rattle.source_tree.specs.Prims.{applied}
-use Rattle.source_tree.specs.Places.{carried_through}
+use Rattle.source_tree.specs.Prims.{applied_all}
+use Rattle.source_tree.specs.Places.{moves_of, moved_through, is_there}
 use Rattle.source_tree.specs.Unnumbered.{document_of}
 use Rattle.tree_lines.specs.Canonical.{canonical_text}
 use Rattle.style_sheet.specs.declared.style.Rule.{Rule as TemplateRule}
@@ -25,14 +27,15 @@ use Rattle.plain_editor.specs.Stops.{Stop, is_same_place, place_of, view_stops}
 use Rattle.plain_editor.specs.Commands.{Command, command_of}
 use Rattle.plain_editor.specs.Commands as command
 
--- the editor's state: the table of names, the source, how many changes it has accepted, the caret, the stops of the last show, and the prims since then
+-- the editor's state: the table of names, the source, how many changes it has accepted, the caret, the stops of the last show, and how
+-- the changes since then move places
 pub record Editor : Type 0 where
   pub names : List NameParts
   pub source : Source
   pub revision : ℕ
   pub caret : Option Caret
   pub stops : Option (List Stop)
-  pub since : List Primitive
+  pub since : List Moves
 
 -- before the first command
 abbrev pub opened : List NameParts → Source → Editor
@@ -46,6 +49,7 @@ pub data Rule : Type 0 where
   FixedText : Rule
   ComputedText : Rule
   AttributeText : Rule
+  Gone : Rule
   NoCaret : Rule
   Long : Rule
   Nodes : Rule
@@ -58,6 +62,7 @@ rule_word NoPlace = codes "no-place"
 rule_word FixedText = codes "fixed"
 rule_word ComputedText = codes "computed"
 rule_word AttributeText = codes "attribute"
+rule_word Gone = codes "gone"
 rule_word NoCaret = codes "no-caret"
 rule_word Long = codes "long"
 rule_word Nodes = codes "nodes"
@@ -126,10 +131,14 @@ refused_by (origin.Into number) = NoPlace
 refused_by (origin.Fixed rule) = FixedText
 refused_by (origin.Computed rule node) = ComputedText
 
--- of the stops that are there, the first that is at a place is taken, and the place is carried through the prims since the show; where
+-- the caret is put at a place, where the place is not gone
+abbrev pub put_there : Editor → CaretPlace → ℕ → Editor × Reply
+put_there editor place occurrence = if is_there editor.source place then (with_caret editor place occurrence, Done) else (editor, Refused Gone)
+
+-- of the stops that are there, the first that is at a place is taken, and the place is moved as the changes since the show move it; where
 -- none is at a place, the first says why
 abbrev pub put_first : Editor → List Stop → List Caret → Editor × Reply
-put_first editor here (caret ∷ carets) = (with_caret editor (carried_through editor.since caret.place) caret.occurrence, Done)
+put_first editor here (caret ∷ carets) = put_there editor (moved_through editor.since caret.place) caret.occurrence
 put_first editor [] [] = (editor, Refused NoPlace)
 put_first editor (stop ∷ stops) [] = (editor, Refused (refused_by stop.origin))
 
@@ -141,15 +150,15 @@ abbrev pub put_at : Editor → ℕ → ℕ → ℕ → Option (List Stop) → Ed
 put_at editor page line column None = (editor, Refused NoView)
 put_at editor page line column (Some stops) = put_among editor (filter (stands_at page line column) stops)
 
--- an accepted change by one prim, and where it leaves the caret
-abbrev pub changed : Editor → Primitive → CaretPlace → ℕ → Editor
-changed editor prim place occurrence = record {
+-- an accepted change by some prims, and where it leaves the caret
+abbrev pub changed : Editor → List Primitive → CaretPlace → ℕ → Editor
+changed editor prims place occurrence = record {
   names = editor.names;
-  source = applied prim editor.source;
+  source = applied_all prims editor.source;
   revision = editor.revision + 1;
   caret = Some (record { place = place; occurrence = occurrence });
   stops = editor.stops;
-  since = editor.since ++ prim ∷ [];
+  since = editor.since ++ moves_of prims (applied_all prims editor.source) ∷ [];
 }
 
 abbrev pub bytes_of : List ℕ → ℕ
@@ -160,17 +169,17 @@ abbrev pub bytes_at : Source → ℕ → ℕ
 bytes_at source n = elim (text_at source n) [ None ↦ 0 | Some text ↦ bytes_of text ]
 
 -- `type`: at a place in a text the characters are put in there; in an element they make a new text, its first child. The caret stands
--- behind them. A text has at most 16,384 bytes, 1,000,000 nodes are made at most, and 50,000 changes accepted.
+-- behind them. The bytes of a text, the nodes that are ever made and the changes that are accepted have their limits.
 abbrev pub typed_at : Editor → List ℕ → CaretPlace → ℕ → Editor × Reply
 typed_at editor text (Text number at) occurrence =
-    if nat_lt 16384 (bytes_at editor.source number.0 + bytes_of text) then (editor, Refused Long)
-    else if nat_le 50000 editor.revision then (editor, Refused Revisions)
-    else (changed editor (InsertText number at text) (Text number (at + bytes_of text)) occurrence, Done)
+    if nat_lt text_limit (bytes_at editor.source number.0 + bytes_of text) then (editor, Refused Long)
+    else if nat_le change_limit editor.revision then (editor, Refused Revisions)
+    else (changed editor (InsertText number at text ∷ []) (Text number (at + bytes_of text)) occurrence, Done)
 typed_at editor text (Into number) occurrence =
-    if nat_lt 16384 (bytes_of text) then (editor, Refused Long)
-    else if nat_le 1000000 editor.source.made then (editor, Refused Nodes)
-    else if nat_le 50000 editor.revision then (editor, Refused Revisions)
-    else (changed editor (InsertChild number 0 (item.Text (named (editor.source.made + 1)) text ∷ [])) (Text (named (editor.source.made + 1)) (bytes_of text)) occurrence, Done)
+    if nat_lt text_limit (bytes_of text) then (editor, Refused Long)
+    else if nat_le node_limit editor.source.made then (editor, Refused Nodes)
+    else if nat_le change_limit editor.revision then (editor, Refused Revisions)
+    else (changed editor (InsertChild number 0 (item.Text (named (editor.source.made + 1)) text ∷ []) ∷ []) (Text (named (editor.source.made + 1)) (bytes_of text)) occurrence, Done)
 
 abbrev pub typed : Editor → List ℕ → Option Caret → Editor × Reply
 typed editor text None = (editor, Refused NoCaret)
@@ -192,10 +201,10 @@ abbrev pub standing_in : Caret → Option (List Stop) → Standing
 standing_in caret None = Hidden
 standing_in caret (Some stops) = standing_at (nearest None caret.occurrence (filter (stands_for caret.place) stops))
 
--- where a caret stands, by the stops of the last show and the primitives since
-abbrev pub standing : Caret → Option (List Stop) → List Primitive → Standing
+-- where a caret stands, by the stops of the last show and the changes since
+abbrev pub standing : Caret → Option (List Stop) → List Moves → Standing
 standing caret stops [] = standing_in caret stops
-standing caret stops (prim ∷ since) = Stale
+standing caret stops (moves ∷ since) = Stale
 
 -- `where`
 abbrev pub told : Editor → Option Caret → Editor × Reply

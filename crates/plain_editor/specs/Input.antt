@@ -19,10 +19,14 @@ document_head = codes "!document"
 abbrev pub script_head : List ℕ
 script_head = codes "!script"
 
--- the input is this stylesheet, if it has one, this document in printable ASCII, and this script, and has at most 16,384 bytes
+-- the bytes of an input
+abbrev pub input_limit : ℕ
+input_limit = 16384
+
+-- the input is this stylesheet, if it has one, this document in printable ASCII, and this script, and is not too long
 pub record IsInput (input : List ℕ) (style : Option Sheet) (document : Written) (script : List (List ℕ)) : Type 0 where
   pub lines : lines_of input ≡ sheet_lines style ++ (document_head ∷ (written_lines document ++ (script_head ∷ script)))
   pub styled : IsStyle style
   pub built : IsDocument document
   pub plain : AllByRecursion (λ line. IsTrue (is_plain line)) (written_lines document)
-  pub short : length input ≤ 16384
+  pub short : length input ≤ input_limit

@@ -11,3 +11,6 @@ pub mod Sound
 pub mod Stops
 pub mod Texts
 pub mod Seen
+pub mod Boundaries
+pub mod Choosing
+pub mod Carets

@@ -1,5 +1,5 @@
 -- Worked examples of the definitions: four inputs with what is answered to them, three that are no input, and scripts that type.
-use Rattle.std.specs.Prelude.{ℕ, List, [], ◌∷◌, ◌++◌, Option, Some, codes}
+use Rattle.std.specs.Prelude.{ℕ, List, [], ◌∷◌, ◌++◌, Some, codes}
 use Rattle.tree_lines.specs.Written.{Written, Attribute, written_lines}
 use Rattle.tree_lines.specs.Written as written
 use Rattle.plain_editor.specs.Input.{document_head, script_head}

@@ -1,4 +1,5 @@
-ghost use Rattle.std.specs.Prelude.{◌≡◌, ◌+◌, ℕ, List, [], ◌∷◌, Option, Some, None};
+ghost use Rattle.std.specs.Prelude.{◌≡◌, ◌⊎◌, ◌+◌, ℕ, List, [], ◌∷◌, ◌++◌, map, Option, Some, None};
+ghost use Rattle.std.specs.List.{AllByRecursion, Contains};
 ghost use Rattle.serna_kinds.specs.Names.{NameParts, Space};
 ghost use Rattle.tree_lines.specs.Written.{Written};
 ghost use Rattle.tree_lines.specs.Given.{given_of};
@@ -10,13 +11,17 @@ ghost use Rattle.style_sheet.specs.declared.style.Rule.{Rule as TemplateRule};
 ghost use Rattle.template_run.specs.Batch.{batch};
 ghost use Rattle.plain_editor.specs.Input.{IsInput};
 ghost use Rattle.plain_editor.specs.Sheets.{Sheet, names_of, rules_for, start};
-ghost use Rattle.plain_editor.specs.Commands.{show_word, command_of, Show, Typing};
+ghost use Rattle.plain_editor.specs.Commands.{show_word, command_of, Show, At, Typing};
 ghost use Rattle.source_model.specs.Source.{Source};
 ghost use Rattle.source_model.specs.Proper.{IsProper};
 ghost use Rattle.plain_editor.specs.Sound.{IsSound};
 ghost use Rattle.plain_editor.specs.Views.{texts_of, view_pages};
-ghost use Rattle.plain_editor.specs.Seen.{ShowTheirPlaces};
-ghost use Rattle.plain_editor.specs.Editor.{Editor, Rule, Done, Refused, opened, step, replies};
+ghost use Rattle.plain_editor.specs.Seen.{StandsThere, ShowTheirPlaces, ShowWholeTexts};
+ghost use Rattle.plain_editor.specs.Stops.{Boundary, Stop, view_stops};
+ghost use Rattle.plain_editor.specs.Boundaries.{StandsOnRight, boundary_of};
+ghost use Rattle.plain_editor.specs.Choosing.{TakesFirst, FirstIsGone, TakesNone};
+ghost use Rattle.plain_editor.specs.Carets.{IsShown, IsSeenAt, CaretBetween};
+ghost use Rattle.plain_editor.specs.Editor.{Editor, Rule, NoView, Gone, Done, Refused, opened, step, replies};
 ghost use Rattle.plain_editor.specs.Keystrokes.{HasOtherText, HasNewFirstText};
 ghost use Rattle.serna_kinds.specs.declared.cells.NodeName.{NodeName};
 ghost use Rattle.serna_kinds.specs.Texts.{inserted};
@@ -68,9 +73,48 @@ pub fn view_is_the_written_text()
 {}
 
 /// What the pages of a source show stands in the source where the pages say that it comes from. So the place that a caret takes from
-/// a stop is the place of what is seen there.
+/// a stop is the place of what is seen there. A part that comes from a text shows the whole text.
 pub fn what_is_seen_stands_there()
-    ensures { (names : List NameParts) (rules : List TemplateRule) (source : Source) → ShowTheirPlaces source (view_pages names rules source) }
+    ensures places { (names : List NameParts) (rules : List TemplateRule) (source : Source) → ShowTheirPlaces source (view_pages names rules source) }
+    ensures whole { (names : List NameParts) (rules : List TemplateRule) (source : Source) → ShowWholeTexts source (view_pages names rules source) }
+{}
+
+/// A stop stands in front of what its origin says. Each stop of a view is at a boundary of a part of a line of the view's pages, and
+/// each such boundary is a stop's. The characters on the right of a boundary, up to the end of its part, are those that stand in the
+/// source where the boundary comes from: with the origin `Text n o` those of the text `n` from `o` on, and with `Into n` none.
+pub fn a_stop_shows_what_stands_there()
+    ensures each_stop { (names : List NameParts) (rules : List TemplateRule) (source : Source) →
+        AllByRecursion (λ (stop : Stop). (right : List ℕ) × StandsOnRight (view_pages names rules source) (boundary_of stop) right) (view_stops names rules source) }
+    ensures each_boundary { (names : List NameParts) (rules : List TemplateRule) (source : Source) (here : Boundary) (right : List ℕ) →
+        StandsOnRight (view_pages names rules source) here right → Contains (map boundary_of (view_stops names rules source)) here }
+    ensures shown { (names : List NameParts) (rules : List TemplateRule) (source : Source) (here : Boundary) (right : List ℕ) →
+        StandsOnRight (view_pages names rules source) here right → StandsThere source right here.origin }
+{}
+
+/// `at` takes the first stop of the last show in that column that is at a place, and puts the caret where this place is now; it is
+/// refused where the place is gone. Where no stop there is at a place, the first stop there says why it is refused.
+pub fn at_takes_the_first_place_there()
+    ensures answered { (rules : List TemplateRule) (editor : Editor) (said : List ℕ) (page line column : ℕ) → command_of said ≡ At page line column →
+        ((step rules editor said).1 ≡ Done) ⊎ ((rule : Rule) × ((step rules editor said).1 ≡ Refused rule)) }
+    ensures done { (rules : List TemplateRule) (editor : Editor) (said : List ℕ) (page line column : ℕ) → command_of said ≡ At page line column →
+        (step rules editor said).1 ≡ Done → TakesFirst page line column editor (step rules editor said).0 }
+    ensures gone { (rules : List TemplateRule) (editor : Editor) (said : List ℕ) (page line column : ℕ) → command_of said ≡ At page line column →
+        (step rules editor said).1 ≡ Refused Gone → FirstIsGone page line column editor }
+    ensures no_view { (rules : List TemplateRule) (editor : Editor) (said : List ℕ) (page line column : ℕ) → command_of said ≡ At page line column →
+        (step rules editor said).1 ≡ Refused NoView → editor.stops ≡ None }
+    ensures refused { (rules : List TemplateRule) (editor : Editor) (said : List ℕ) (page line column : ℕ) (rule : Rule) → command_of said ≡ At page line column →
+        (step rules editor said).1 ≡ Refused rule → (rule ≡ NoView → ⊥) → (rule ≡ Gone → ⊥) → TakesNone page line column editor rule }
+{}
+
+/// While the last show is one of the present source, `at` puts the caret where it is seen: the characters on the right of that column
+/// of the pages, up to the end of their part, are those that stand in the source behind the caret's place. What is typed in a text
+/// comes to stand between what was before the caret and what is behind it, and the caret behind what was typed.
+pub fn a_caret_stands_where_it_is_seen()
+    ensures shown { (rules : List TemplateRule) (editor : Editor) (said : List ℕ) → command_of said ≡ Show → IsShown rules (step rules editor said).0 }
+    ensures put { (rules : List TemplateRule) (editor : Editor) (said : List ℕ) (page line column : ℕ) → IsShown rules editor → command_of said ≡ At page line column →
+        (step rules editor said).1 ≡ Done → IsSeenAt (view_pages editor.names rules editor.source) editor.source page line column (step rules editor said).0.caret }
+    ensures typed { (rules : List TemplateRule) (editor : Editor) (said text before behind : List ℕ) (number : NodeName) → command_of said ≡ Typing text →
+        CaretBetween editor number before behind → (step rules editor said).1 ≡ Done → CaretBetween (step rules editor said).0 number (before ++ text) behind }
 {}
 
 /// Whatever went before, `show` answers what a fresh editor of the present source answers, and keeps the same stops.

@@ -5,6 +5,9 @@
 mod laws;
 
 pub use laws::{
-    a_refusal_changes_nothing, each_step_is_sound, names_do_not_show, one_reading,
-    runs_say_the_text, typing_changes_one_place, view_is_the_written_text, worked_examples,
+    a_caret_stands_where_it_is_seen, a_refusal_changes_nothing, a_show_is_fresh,
+    a_stop_shows_what_stands_there, at_takes_the_first_place_there, each_step_is_sound,
+    names_do_not_show, one_reading, runs_say_the_text, typing_changes_one_place,
+    view_is_the_written_text, what_is_printed_stays_readable, what_is_seen_stands_there,
+    worked_examples,
 };

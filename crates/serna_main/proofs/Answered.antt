@@ -4,7 +4,7 @@ use Rattle.std.proofs.lemmas.Bool.{cases_lt, false≢true}
 use Rattle.std.proofs.lemmas.List.{append-nil}
 use Rattle.tree_lines.specs.Written.{Written}
 use Rattle.serna_outside.specs.Outside.{Appends, Consumes, IsAtEnd, Rose}
-use Rattle.plain_editor.specs.Input.{IsInput}
+use Rattle.plain_editor.specs.Input.{IsInput, input_limit}
 use Rattle.plain_editor.specs.Sheets.{Sheet}
 use Rattle.plain_editor.proofs.Readings.{AreToldByLines, one_reading}
 use Rattle.serna_main.specs.declared.status.Status.{Status}
@@ -124,10 +124,10 @@ if_some_all (Some x) P all = all x
 -- what was read is the whole input, or the input is too long
 pub data Whole (bytes input : List ℕ) : Type 0 where
   read_whole : input ≡ bytes → Whole bytes input
-  too_long : 16384 < length bytes → 16384 < length input → Whole bytes input
+  too_long : input_limit < length bytes → input_limit < length input → Whole bytes input
 
-whole_of : (bytes input rest : List ℕ) → input ≡ bytes ++ rest → (length bytes ≤ 16384 → rest ≡ []) → Whole bytes input
-whole_of bytes input rest is at_end = elim (cases_lt 16384 (length bytes)) [
+whole_of : (bytes input rest : List ℕ) → input ≡ bytes ++ rest → (length bytes ≤ input_limit → rest ≡ []) → Whole bytes input
+whole_of bytes input rest is at_end = elim (cases_lt input_limit (length bytes)) [
   | inl long ↦ too_long long (omega (arith, ap length is, length-append bytes rest))
   | inr short ↦ read_whole (is ∙ ap (λ r. bytes ++ r) (at_end short) ∙ append-nil bytes)
 ]
@@ -150,18 +150,18 @@ front_whole bytes input h h₁ (too_long long longer) front b status.ReadFault o
 front_whole bytes input h h₁ (too_long long longer) front b status.WriteFault out = absurd out
 front_whole bytes input h h₁ (too_long long longer) front b status.NoMemory out = absurd out
 
-pub out_of_left : (left left₁ : Option (List ℕ)) (bytes : List ℕ) (ended : Status) (h h₁ : Option (List ℕ)) → Consumes left left₁ bytes → (length bytes ≤ 16384 → IsAtEnd left₁) →
+pub out_of_left : (left left₁ : Option (List ℕ)) (bytes : List ℕ) (ended : Status) (h h₁ : Option (List ℕ)) → Consumes left left₁ bytes → (length bytes ≤ input_limit → IsAtEnd left₁) →
     ((b : List ℕ) × IsReplied bytes b ended × Appends h h₁ b) → IfSome left (λ input. (b : List ℕ) × IsReplied input b ended × Appends h h₁ b)
 out_of_left None left₁ bytes ended h h₁ consumed at_end out = tt
 out_of_left (Some input) None bytes ended h h₁ consumed at_end out = absurd consumed
 out_of_left (Some input) (Some rest) bytes ended h h₁ consumed at_end out = out_whole bytes input ended h h₁ (whole_of bytes input rest consumed at_end) out
 
-pub front_of_left : (left left₁ : Option (List ℕ)) (bytes : List ℕ) (h h₁ : Option (List ℕ)) → Consumes left left₁ bytes → (length bytes ≤ 16384 → IsAtEnd left₁) →
+pub front_of_left : (left left₁ : Option (List ℕ)) (bytes : List ℕ) (h h₁ : Option (List ℕ)) → Consumes left left₁ bytes → (length bytes ≤ input_limit → IsAtEnd left₁) →
     ((b : List ℕ) (other : Status) → IsReplied bytes b other → AppendsFront h h₁ b) → IfSome left (λ input. (b : List ℕ) (other : Status) → IsReplied input b other → AppendsFront h h₁ b)
 front_of_left None left₁ bytes h h₁ consumed at_end front = tt
 front_of_left (Some input) None bytes h h₁ consumed at_end front = absurd consumed
 front_of_left (Some input) (Some rest) bytes h h₁ consumed at_end front = front_whole bytes input h h₁ (whole_of bytes input rest consumed at_end) front
 
 -- an input that was answered with Ok was read whole
-pub end_of_left : (left left₁ : Option (List ℕ)) (bytes : List ℕ) (h h₁ : Option (List ℕ)) → (length bytes ≤ 16384 → IsAtEnd left₁) → ((b : List ℕ) × IsReplied bytes b status.Ok × Appends h h₁ b) → IsAtEnd left₁
+pub end_of_left : (left left₁ : Option (List ℕ)) (bytes : List ℕ) (h h₁ : Option (List ℕ)) → (length bytes ≤ input_limit → IsAtEnd left₁) → ((b : List ℕ) × IsReplied bytes b status.Ok × Appends h h₁ b) → IsAtEnd left₁
 end_of_left left left₁ bytes h h₁ at_end out = at_end out.1.3.short

@@ -9,7 +9,7 @@ use Rattle.std.specs.Str.{bytes_eq}
 use Rattle.tree_lines.specs.declared.tree.Line.{Line}
 use Rattle.tree_lines.specs.Written.{Written, written_lines}
 use Rattle.plain_editor.specs.Sheets.{Sheet, sheet_head, sheet_lines}
-use Rattle.plain_editor.specs.Input.{lines_of, document_head, script_head, IsInput}
+use Rattle.plain_editor.specs.Input.{lines_of, document_head, script_head, input_limit, IsInput}
 use Rattle.plain_editor.proofs.Readings.{is_head, AreNoHeads, written_no_heads, no_style}
 use Rattle.serna_main.specs.declared.opening.Opening.{Opening}
 use Rattle.serna_main.specs.Out.{IsRefused}
@@ -164,7 +164,7 @@ refused_opening bytes lines k is at none style d s input =
     none style d input.styled input.built input.plain same.0
 
 -- an opening before the script's head: that is the input
-pub is_input : (bytes : List ℕ) (lines : List Line) (k : ℕ) → bytes_of lines ≡ lines_of bytes → Some k ≡ position (λ (line : Line). is_line script_head line.bytes) lines → length bytes ≤ 16384 →
+pub is_input : (bytes : List ℕ) (lines : List Line) (k : ℕ) → bytes_of lines ≡ lines_of bytes → Some k ≡ position (λ (line : Line). is_line script_head line.bytes) lines → length bytes ≤ input_limit →
     (opening : Opening) (o : IsOpening (bytes_of (take k lines)) opening) → IsInput bytes o.style o.document (bytes_of (drop (k + 1) lines))
 is_input bytes lines k is at short opening o =
     let cut = cut_at script_head lines k at in

@@ -1,4 +1,5 @@
 ghost use Rattle.std.specs.Prelude.{◌≡◌, ◌≤◌, ◌+◌, IfOk, IfSome, OnOk, IsErrOf, length};
+ghost use Rattle.plain_editor.specs.Input.{input_limit};
 ghost use Rattle.serna_outside.specs.Outside.{Consumes, IsAtEnd, Rose};
 
 use serna_outside::{Got, Source};
@@ -20,10 +21,10 @@ const BUFFER: usize = 4096;
 /// a byte.
 pub(crate) fn read_input<S: Source>(alloc: Global, source: &mut S) -> Result<Vec<u8>, ReadError>
     ensures read { IfOk result (λ bytes. Consumes (S.left source.old) (S.left source.new) bytes.items) }
-    ensures whole { IfOk result (λ bytes. length bytes.items ≤ 16384 → IsAtEnd (S.left source.new)) }
+    ensures whole { IfOk result (λ bytes. length bytes.items ≤ input_limit → IsAtEnd (S.left source.new)) }
     ensures kept { OnOk result (S.faults source.new ≡ S.faults source.old) }
     ensures calls { IfSome (S.left source.old) (λ before. IfSome (S.left source.new) (λ after. S.calls source.new + length after ≤ S.calls source.old + length before + 1)) }
-    ensures calls_in_all { S.calls source.new ≤ S.calls source.old + 16385 }
+    ensures calls_in_all { S.calls source.new ≤ S.calls source.old + (input_limit + 1) }
     ensures failed { IsErrOf result ReadError.Failed → Rose (S.faults source.old) (S.faults source.new) }
 {
     let mut bytes = Vec::new(alloc);

@@ -1,6 +1,6 @@
 ghost use Rattle.std.specs.Prelude.{◌≡◌, ◌+◌, ◌≤◌, IfOk, IfSome, IfNone, length, drop, position, ◌==◌};
 ghost use Rattle.std.specs.List.{position_or_len};
-ghost use Rattle.plain_editor.specs.Input.{lines_of};
+ghost use Rattle.plain_editor.specs.Input.{lines_of, input_limit};
 ghost use Rattle.serna_main.specs.Lines.{numbered_lines};
 ghost use Rattle.serna_main.specs.Out.{IsRefused};
 ghost use Rattle.serna_main.specs.Sections.{IsJudged};
@@ -59,7 +59,7 @@ pub(crate) fn judge(alloc: Global, bytes: &[u8]) -> Result<Option<Sections>, NoM
 
 /// The lines of a text, numbered from 1.
 fn split_lines(alloc: Global, bytes: &[u8]) -> Result<Vec<Line>, NoMemory>
-    requires { length bytes.now ≤ 16384 }
+    requires { length bytes.now ≤ input_limit }
     ensures { IfOk result (λ lines. lines.items ≡ numbered_lines 1 (lines_of bytes.now)) }
 {
     let mut lines = Vec::new(alloc);

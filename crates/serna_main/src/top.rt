@@ -1,4 +1,5 @@
 ghost use Rattle.std.specs.Prelude.{◌≡◌, ◌≢◌, ◌≤◌, ◌+◌, ◌⊎◌, ℕ, List, [], IfSome, IsTrue, false, length};
+ghost use Rattle.plain_editor.specs.Input.{input_limit};
 ghost use Rattle.serna_outside.specs.Outside.{Appends, IsAtEnd, Rose};
 ghost use Rattle.plain_editor.specs.Editor.{opened};
 ghost use Rattle.live_editor.specs.Held.{IsSomeSound};
@@ -80,7 +81,7 @@ pub fn serna_alone<S: Source, K: Sink>(
     // Each call of `read` but one gives a byte, and no more are made than an input of the built form needs.
     ensures calls { IfSome (S.left source.old) (λ before. IfSome (S.left source.new) (λ after.
         S.calls source.new + length after ≤ S.calls source.old + length before + 1)) }
-    ensures calls_in_all { S.calls source.new ≤ S.calls source.old + 16385 }
+    ensures calls_in_all { S.calls source.new ≤ S.calls source.old + (input_limit + 1) }
 
     // An accepted input is answered whole where no count of faults rose, but for want of memory.
     ensures complete { words.now ≡ [] → IfSome (S.left source.old) (λ input. IsAccepted input →

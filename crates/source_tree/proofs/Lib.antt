@@ -14,3 +14,8 @@ pub mod PrintedBack
 pub mod PrintableGrown
 pub mod TextWritten
 pub mod Lineless
+pub mod TextPlaces
+pub mod ShortTexts
+pub mod PlacesKept
+pub mod Neighbours
+pub mod StillThere

@@ -5,6 +5,7 @@ pub mod Growing
 pub mod Prims
 pub mod Seen
 pub mod Places
+pub mod Neighbours
 pub mod Printing
 pub mod Unnumbered
 pub mod Lines

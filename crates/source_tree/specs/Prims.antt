@@ -1,5 +1,5 @@
 -- The smallest changes of a source, and what takes each back (this project's own).
-use Rattle.std.specs.Prelude.{◌≡◌, ℕ, ◌+◌, ◌<◌, ◌≤◌, List, [], ◌∷◌, ◌++◌, max, length, Some, encode_utf8_all}
+use Rattle.std.specs.Prelude.{◌≡◌, ℕ, ◌+◌, ◌<◌, ◌≤◌, List, [], ◌∷◌, ◌++◌, max, length, fold, Some, encode_utf8_all}
 use Rattle.std.specs.Option.{option_map_or}
 use Rattle.serna_kinds.specs.Texts.{IsPlaceIn, inserted, removed}
 use Rattle.source_model.specs.Source.{Body, Root, Element, Text, Comment, Forest, none, node, Source, numbers}
@@ -54,6 +54,10 @@ applied (InsertText text place piece) source = with_tree source (with_text text.
 applied (RemoveText text from to) source = with_tree source (with_text text.0 (removed from to) source.tree)
 applied (InsertChild parent place items) source = with_nodes source parent.0 place (subtree items)
 applied (RemoveChild parent place) source = with_tree source (with_kids parent.0 (removed_at place) source.tree)
+
+-- what prims make of it, one after another
+abbrev pub applied_all : List Primitive → Source → Source
+applied_all prims source = fold (λ source prim. applied prim source) source prims
 
 -- a node's items in front of those that follow it, where its children have these
 abbrev pub own_items : ℕ → Body → List SubItem → List SubItem → List SubItem

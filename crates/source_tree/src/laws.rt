@@ -1,14 +1,14 @@
 //! Laws of sources in memory. Each function has an empty body, and its contract is the law.
-ghost use Rattle.std.specs.Prelude.{◌≡◌, ℕ, ◌<◌, ◌≤◌, List, Some, length};
+ghost use Rattle.std.specs.Prelude.{◌≡◌, ◌↔◌, ℕ, ◌-◌, ◌<◌, ◌≤◌, List, [], ◌∷◌, ◌++◌, Some, IsSome, length};
 ghost use Rattle.serna_kinds.specs.declared.cells.NodeName.{NodeName};
-ghost use Rattle.serna_kinds.specs.Texts.{IsPlaceIn};
+ghost use Rattle.serna_kinds.specs.Texts.{IsPlaceIn, upto, past, inserted, removed};
 ghost use Rattle.serna_kinds.specs.Names.{NameParts, Space, Grows, AreDistinct};
 ghost use Rattle.source_model.specs.Source.{Source, numbers};
 ghost use Rattle.source_model.specs.Cells.{Spot, spot_of};
 ghost use Rattle.source_model.specs.Changes.{text_at};
 ghost use Rattle.source_model.specs.Proper.{uses, IsProper};
 ghost use Rattle.source_tree.specs.declared.prim.Primitive.{Primitive};
-ghost use Rattle.source_tree.specs.declared.prim.Primitive.TheVariants.{RemoveText, RemoveChild};
+ghost use Rattle.source_tree.specs.declared.prim.Primitive.TheVariants.{InsertText, RemoveText, RemoveChild};
 ghost use Rattle.source_tree.specs.Prims.{applied, inverse, MayApply, KeepsProper};
 ghost use Rattle.source_tree.specs.Printing.{IsPrintable, PutsWritable, PrintsBack};
 ghost use Rattle.tree_lines.specs.Written.{Written, written_lines};
@@ -17,6 +17,11 @@ ghost use Rattle.tree_lines.specs.Given.{Given, without_lines, IsWhole, spaces_o
 ghost use Rattle.tree_lines.specs.Tokens.{names_with};
 ghost use Rattle.source_tree.specs.Begun.{begun};
 ghost use Rattle.source_tree.specs.Unnumbered.{document_of};
+ghost use Rattle.source_tree.specs.Places.{IsPlaceOf, Lasts, carried, carried_through, settled, moved, moves_of};
+ghost use Rattle.source_tree.specs.declared.prim.CaretPlace.{CaretPlace};
+ghost use Rattle.source_tree.specs.declared.prim.Moves.{Moves};
+ghost use Rattle.source_tree.specs.declared.prim.CaretPlace.TheVariants as place;
+ghost use Rattle.source_tree.specs.Neighbours.{StandsBetween, CarriesBetween, IsElsewhere};
 
 /// What takes a prim back restores the tree, where no number stands twice in it, and keeps the declared prefixes. The count of
 /// numbers ever made does not fall.
@@ -75,4 +80,46 @@ pub fn a_begun_source_is_writable()
 /// A source that can be printed so that it reads back over a table of names can be so over every table that grows from it.
 pub fn printable_while_names_grow()
     ensures { (names table : List NameParts) (source : Source) → Grows names table → IsPrintable names source → IsPrintable table source }
+{}
+
+/// How places live through a prim that may be applied. They are moved to where they stand in the source that it leaves: carried,
+/// and the inside of an element that begins with a text there is the start of that text. A place of the source becomes one of
+/// the new source, and one that is gone stays as it is.
+pub fn places_last()
+    ensures settled { (names : List NameParts) (source : Source) (prim : Primitive) (place : CaretPlace) → IsProper names source → MayApply prim source → Lasts source place →
+        moved (moves_of (prim ∷ []) (applied prim source)) place ≡ settled (applied prim source) (carried prim place) }
+    ensures kept { (names : List NameParts) (source : Source) (prim : Primitive) (place : CaretPlace) → IsProper names source → MayApply prim source → IsPlaceOf source place →
+        IsPlaceOf (applied prim source) (settled (applied prim source) (carried prim place)) }
+    ensures lasts { (names : List NameParts) (source : Source) (prim : Primitive) (place : CaretPlace) → IsProper names source → MayApply prim source → KeepsProper names prim source →
+        Lasts source place → Lasts (applied prim source) (moved (moves_of (prim ∷ []) (applied prim source)) place) }
+    ensures begins { (names : List NameParts) (source : Source) (place : CaretPlace) → IsProper names source → IsPlaceOf source place → Lasts source place }
+{}
+
+/// A place of a text stands between the characters before it and those behind it, and a carried place stands between the same ones as
+/// long as these are there. Characters that are put in at the place itself or behind it come to stand behind it, at their distance
+/// from it, and those that are put in before it come to stand before it. So it is with characters that are taken out, and a place
+/// among them stands where they were. A change elsewhere leaves both sides as they were, where no number stands twice and the text is
+/// still there. A change moves a place of a text as its prims carry it, one after another.
+pub fn a_carried_place_keeps_its_neighbours()
+    ensures each_place { (source : Source) (number : NodeName) (at : ℕ) →
+        IsPlaceOf source (place.Text number at) ↔ ((before : List ℕ) × (behind : List ℕ) × StandsBetween source (place.Text number at) before behind) }
+    ensures ahead_of_insertion { (source : Source) (number : NodeName) (at from : ℕ) (before behind piece : List ℕ) →
+        StandsBetween source (place.Text number at) before behind → IsPlaceIn (before ++ behind) from → at ≤ from →
+        CarriesBetween (InsertText number from piece) source (place.Text number at) before (inserted (from - at) piece behind) }
+    ensures past_insertion { (source : Source) (number : NodeName) (at from : ℕ) (before behind piece : List ℕ) →
+        StandsBetween source (place.Text number at) before behind → IsPlaceIn (before ++ behind) from → from < at →
+        CarriesBetween (InsertText number from piece) source (place.Text number at) (inserted from piece before) behind }
+    ensures ahead_of_removal { (source : Source) (number : NodeName) (at from to : ℕ) (before behind : List ℕ) →
+        StandsBetween source (place.Text number at) before behind → IsPlaceIn (before ++ behind) from → IsPlaceIn (before ++ behind) to → from ≤ to → at ≤ from →
+        CarriesBetween (RemoveText number from to) source (place.Text number at) before (removed (from - at) (to - at) behind) }
+    ensures past_removal { (source : Source) (number : NodeName) (at from to : ℕ) (before behind : List ℕ) →
+        StandsBetween source (place.Text number at) before behind → IsPlaceIn (before ++ behind) from → IsPlaceIn (before ++ behind) to → from ≤ to → to ≤ at →
+        CarriesBetween (RemoveText number from to) source (place.Text number at) (removed from to before) behind }
+    ensures within_removal { (source : Source) (number : NodeName) (at from to : ℕ) (before behind : List ℕ) →
+        StandsBetween source (place.Text number at) before behind → IsPlaceIn (before ++ behind) from → IsPlaceIn (before ++ behind) to → from ≤ at → at ≤ to →
+        CarriesBetween (RemoveText number from to) source (place.Text number at) (upto from before) (past (to - at) behind) }
+    ensures elsewhere { (source : Source) (prim : Primitive) (number : NodeName) (at : ℕ) (before behind : List ℕ) → IsElsewhere prim number →
+        uses number.0 source.tree ≤ 1 → uses number.0 (applied prim source).tree ≤ 1 → IsSome (text_at (applied prim source) number.0) →
+        StandsBetween source (place.Text number at) before behind → CarriesBetween prim source (place.Text number at) before behind }
+    ensures moved { (moves : Moves) (number : NodeName) (at : ℕ) → moved moves (place.Text number at) ≡ carried_through moves.prims (place.Text number at) }
 {}

@@ -40,3 +40,18 @@ pub enum Primitive {
 
 /// The prim that takes a prim back.
 pub type Undoing = Primitive;
+
+/// An element whose first child is a text since a change, and that text.
+#[derive(Clone, Copy, Debug, PartialEq, Eq)]
+pub struct Begun {
+    pub element: NodeName,
+    pub text: NodeName,
+}
+
+/// How a change moves places: its primitives, one after another, and, of the elements whose children they change, those that
+/// begin with a text in what the whole change leaves. A place inside such an element is then the start of that text.
+#[derive(Debug, Drop)]
+pub struct Moves {
+    pub prims: Items<Primitive>,
+    pub begun: Items<Begun>,
+}

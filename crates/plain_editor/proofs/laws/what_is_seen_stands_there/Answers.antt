@@ -1,5 +1,5 @@
-use Rattle.plain_editor.proofs.Seen.{view_seen}
+use Rattle.plain_editor.proofs.Seen.{view_seen, view_whole}
 use Rattle.plain_editor.proofs.laws.what_is_seen_stands_there.Goals as goal
 
 pub returns : goal.returns
-returns c = view_seen
+returns c = record { places = view_seen; whole = view_whole }

@@ -1,5 +1,6 @@
 use Rattle.std.proofs.Common.{arith, ◌≡◌, ◌≢◌, refl, ◌≤◌, List, [], ℕ, IfSome, length, sym, subst, ap, ◌∙◌, Err}
 use Rattle.std.proofs.lemmas.Bool.{eqb-false, eqb-true}
+use Rattle.plain_editor.specs.Input.{input_limit}
 use Rattle.serna_outside.specs.Outside.{Appends, Consumes, IsAtEnd, Rose}
 use Rattle.serna_main.specs.declared.status.Status.TheVariants as status
 use Rattle.serna_main.specs.Out.{IsEnded, IsReplied}
@@ -109,7 +110,7 @@ returns-in-Ok g c =
     let bytes : List ℕ = c.as_slice.result.now in
     let empty : c.args.words.now ≡ [] = empty_words c.args.words.now (eqb-true (length c.args.words.now) 0 (sym c.if-not-is_empty.ensures)) in
     let consumed : Consumes left left₁ bytes = subst (Consumes left left₁) (sym c.as_slice.ensures.value) c.in-Ok.ensures.read in
-    let at_end : length bytes ≤ 16384 → IsAtEnd left₁ = subst (λ b. length b ≤ 16384 → IsAtEnd left₁) (sym c.as_slice.ensures.value) c.in-Ok.ensures.whole in
+    let at_end : length bytes ≤ input_limit → IsAtEnd left₁ = subst (λ b. length b ≤ input_limit → IsAtEnd left₁) (sym c.as_slice.ensures.value) c.in-Ok.ensures.whole in
     let whole : IsWhole ended → IfSome left (λ input. (b : List ℕ) × IsReplied input b ended × Appends held held₁ b) = λ w. out_of_left left left₁ bytes ended held held₁ consumed at_end (a.out w) in
     let read_fault : ended ≡ status.ReadFault → Rose (g.S.Source.faults c.args.source.now) (g.S.Source.faults c.read_input.new.source) = λ e. absurd (a.no_read_fault e) in
     record {

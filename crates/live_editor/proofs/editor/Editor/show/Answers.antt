@@ -1,7 +1,7 @@
 -- The stops that are kept are those of the view.
 use Rattle.std.proofs.Common.{[], Some, List, sym, ap, ◌∙◌, subst}
 use Rattle.std.specs.List.{flat_map}
-use Rattle.source_tree.specs.declared.prim.Primitive.{Primitive}
+use Rattle.source_tree.specs.declared.prim.Moves.{Moves}
 use Rattle.plain_editor.specs.Views.{view_pages}
 use Rattle.plain_editor.specs.Stops.{stops_behind, page_boundaries, view_stops}
 use Rattle.plain_editor.specs.Stops as stops
@@ -12,7 +12,7 @@ use Rattle.live_editor.specs.Shown.{boundaries_of}
 use Rattle.live_editor.specs.Held.{IsSomeSound}
 use Rattle.live_editor.proofs.editor.Editor.show.Goals as goal
 
-abbrev with_view : Editor → List stops.Boundary → List Primitive → Editor
+abbrev with_view : Editor → List stops.Boundary → List Moves → Editor
 with_view now boundaries since = record { names = now.names; source = now.source; revision = now.revision; caret = now.caret; stops = Some (stops_behind [] boundaries); since = since }
 
 pub returns-clause-state : goal.returns-clause-state

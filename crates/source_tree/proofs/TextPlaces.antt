@@ -20,7 +20,7 @@ pub record Between (a b c d : List ℕ) : Type 0 where
   pub later : c ≡ a ++ more
   pub left : b ≡ more ++ d
 
-between : (a b c d : List ℕ) → a ++ b ≡ c ++ d → size a ≤ size c → Between a b c d
+pub between : (a b c d : List ℕ) → a ++ b ≡ c ++ d → size a ≤ size c → Between a b c d
 between [] b c d e le = record { more = c; later = refl; left = e }
 between (x ∷ a) b [] d e le = absurd (omega (arith, le, length-append (encode_utf8 x) (encode_utf8_all a), (starts_one x).0))
 between (x ∷ a) b (y ∷ c) d e le =
@@ -54,7 +54,7 @@ moves text piece from at f p le =
           ∙ (let whole : size p.before ≡ size f.before + size m.more = ap size m.later ∙ size-append f.before m.more in omega (arith, whole, p.place));
     }
 
-by_test : (P : ℕ → Type 0) (b : Bool) (x y : ℕ) → (b ≡ true → P x) → (b ≡ false → P y) → P (if b then x else y)
+pub by_test : (P : ℕ → Type 0) (b : Bool) (x y : ℕ) → (b ≡ true → P x) → (b ≡ false → P y) → P (if b then x else y)
 by_test P true x y p q = p refl
 by_test P false x y p q = q refl
 
