@@ -29,7 +29,7 @@ filter-without f p (x ∷ xs) out = elim (cases_eq x p) [
   | inr ne ↦ ap (filter f) (without_there p x xs ne) ∙ ap (λ ys. cond (f x) (x ∷ ys) ys) (filter-without f p xs out)
 ]
 
-first_none : (xs : List ℕ) → first_of xs ≡ None → xs ≡ []
+pub first_none : (xs : List ℕ) → first_of xs ≡ None → xs ≡ []
 first_none [] none = refl
 first_none (x ∷ xs) none = absurd (cc)
 

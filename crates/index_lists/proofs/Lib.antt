@@ -1,5 +1,6 @@
 pub mod ArenaLemmas
 pub mod Clearing
+pub mod FromFirst
 pub mod Laws
 pub mod LinkLemmas
 pub mod PoolLemmas

@@ -19,3 +19,8 @@ first_of (x ∷ xs) = Some x
 abbrev pub place_after : ℕ → List ℕ → Option ℕ
 place_after p [] = None
 place_after p (x ∷ xs) = if x == p then first_of xs else place_after p xs
+
+-- the list from the first p on
+abbrev pub from_first : ℕ → List ℕ → List ℕ
+from_first p [] = []
+from_first p (x ∷ xs) = if x == p then x ∷ xs else from_first p xs
