@@ -1,0 +1,5 @@
+pub mod Codes
+pub mod Forest
+pub mod Links
+pub mod Paths
+pub mod Ways
