@@ -1,0 +1,4 @@
+pub mod ShelfLemmas
+pub mod PlaceLemmas
+pub mod MapLemmas
+pub mod LawLemmas
