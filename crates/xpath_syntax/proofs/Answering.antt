@@ -4,14 +4,14 @@ use Rattle.std.specs.List.{AllByRecursion}
 use Rattle.std.proofs.lemmas.Bool.{cases_lt}
 use Rattle.std.proofs.lemmas.List.{length-map}
 use Rattle.serna_kinds.specs.Names.{NameParts, Space, Grows}
-use Rattle.xpath_syntax.specs.declared.symbol.Symbol.{Symbol}
-use Rattle.xpath_syntax.specs.declared.tokens.Token.{Token}
-use Rattle.xpath_syntax.specs.declared.faults.ExprRule.{ExprRule}
+use Rattle.xpath_tokens.specs.declared.symbol.Symbol.{Symbol}
+use Rattle.xpath_tokens.specs.declared.tokens.Token.{Token}
+use Rattle.xpath_tokens.specs.declared.faults.ExprRule.{ExprRule}
 use Rattle.xpath_syntax.specs.declared.reader.ExprFault.{ExprFault}
 use Rattle.xpath_syntax.specs.declared.reader.ExprFault.TheVariants as fault
-use Rattle.xpath_syntax.specs.Tokens.{IsCut}
-use Rattle.xpath_syntax.specs.Symbols.{written_at, symbol_of, symbols_at}
-use Rattle.xpath_syntax.specs.Writable.{HasName, HasNames}
+use Rattle.xpath_tokens.specs.Tokens.{IsCut}
+use Rattle.xpath_tokens.specs.Symbols.{written_at, symbol_of, symbols_at}
+use Rattle.xpath_tokens.specs.Named.{HasName, HasNames}
 use Rattle.xpath_syntax.specs.Stops.{next_depth, IsShallowFrom, IsShallow, CanGoOnBy, IsStopBy}
 use Rattle.xpath_syntax.specs.Reading.{HasReadingBy, HasFaultBy, IsReadBy}
 
@@ -19,29 +19,6 @@ pub cut_front : (text : List ℕ) (k : ℕ) (tokens : List Token) → AllByRecur
 cut_front text zero tokens all = tt
 cut_front text (suc k) [] all = tt
 cut_front text (suc k) (t ∷ ts) all = (all.0, cut_front text k ts all.1)
-
--- a token by its place, before those from the next place on
-pub one_before : (ts : List Token) (n : ℕ) (d : Token) → 0 < n → n ≤ length ts → drop (n - 1) ts ≡ get_or ts (n - 1) d ∷ drop n ts
-one_before ts zero d some le = absurd (omega arith)
-one_before [] (suc n) d some le = absurd (omega arith)
-one_before (t ∷ ts) (suc zero) d some le = refl
-one_before (t ∷ ts) (suc (suc n)) d some le =
-    let less : suc n - 1 ≡ n = omega arith in
-    let more : suc (suc n) - 1 ≡ suc n = omega arith in
-    let rest = one_before ts (suc n) d (omega arith) (omega arith) in
-    let one : drop (suc n - 1) ts ≡ drop n ts = ap (λ k. drop k ts) less in
-    let two : get_or ts (suc n - 1) d ≡ get_or ts n d = ap (λ k. get_or ts k d) less in
-    ap (λ k. drop k (t ∷ ts)) more ∙ sym one ∙ rest ∙ ap (λ x. x ∷ drop (suc n) ts) (two ∙ sym (ap (λ k. get_or (t ∷ ts) k d) more))
-
-module _ (spaces : List Space) (names : List NameParts) (text : List ℕ) (ts : List Token) (n : ℕ) (d : Token) (some : 0 < n) (within : n ≤ length ts) (written : List ℕ) (is : written ≡ written_at text (get_or ts (n - 1) d)) where
-  pub names_before : HasName spaces names (get_or ts (n - 1) d).kind written → HasNames spaces names text (drop n ts) → HasNames spaces names text (drop (n - 1) ts)
-  names_before has all = subst (HasNames spaces names text) (sym (one_before ts n d some within)) (subst (HasName spaces names (get_or ts (n - 1) d).kind) is has, all)
-
-  pub symbols_before : (s : Symbol) (later : List Symbol) → s ≡ symbol_of spaces names (get_or ts (n - 1) d).kind written → later ≡ symbols_at spaces names text (drop n ts) → s ∷ later ≡ symbols_at spaces names text (drop (n - 1) ts)
-  symbols_before s later this rest =
-      ap (λ x. x ∷ later) (this ∙ ap (symbol_of spaces names (get_or ts (n - 1) d).kind) is)
-      ∙ ap (λ l. symbol_of spaces names (get_or ts (n - 1) d).kind (written_at text (get_or ts (n - 1) d)) ∷ l) rest
-      ∙ ap (symbols_at spaces names text) (sym (one_before ts n d some within))
 
 front : (ts : List Symbol) (a b : ℕ) → a ≤ b → (more : List Symbol) × (take b ts ≡ take a ts ++ more)
 front ts zero b low = (take b ts, refl)

@@ -4,12 +4,12 @@ use Rattle.std.specs.List.{AllByRecursion}
 use Rattle.std.proofs.lemmas.Bool.Decides.{nat_tests}
 use Rattle.serna_kinds.specs.declared.expressions.NodeTest.{NodeTest}
 use Rattle.serna_kinds.specs.declared.expressions.Axis.{Axis}
-use Rattle.xpath_syntax.specs.declared.expr.Expr.{Expr}
-use Rattle.xpath_syntax.specs.declared.expr.ArithOp.TheVariants as arith_op
-use Rattle.xpath_syntax.specs.declared.symbol.Operator.{Operator}
-use Rattle.xpath_syntax.specs.declared.symbol.Operator.TheVariants as operator
-use Rattle.xpath_syntax.specs.declared.symbol.Symbol.{Symbol}
-use Rattle.xpath_syntax.specs.declared.symbol.Symbol.TheVariants as symbol
+use Rattle.xpath_trees.specs.declared.expr.Expr.{Expr}
+use Rattle.xpath_trees.specs.declared.expr.ArithOp.TheVariants as arith_op
+use Rattle.xpath_tokens.specs.declared.symbol.Operator.{Operator}
+use Rattle.xpath_tokens.specs.declared.symbol.Operator.TheVariants as operator
+use Rattle.xpath_tokens.specs.declared.symbol.Symbol.{Symbol}
+use Rattle.xpath_tokens.specs.declared.symbol.Symbol.TheVariants as symbol
 use Rattle.xpath_syntax.specs.declared.state.Level.{Level}
 use Rattle.xpath_syntax.specs.declared.state.Level.TheVariants as level
 use Rattle.xpath_syntax.specs.Trees.{level_of}

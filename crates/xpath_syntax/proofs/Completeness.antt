@@ -1,18 +1,19 @@
 -- The machine reads each expression of the grammar.
 use Rattle.std.proofs.Common.{◌≡◌, ◌<◌, ◌+◌, ◌==◌, ℕ, zero, suc, Bool, true, false, cond, List, [], ◌∷◌, ◌++◌, map, Some, None, sym, refl, ap, ◌∙◌, inl, inr, append_assoc, append-nil, arith, option_map}
-use Rattle.std.specs.List.{AllByRecursion, flat_map}
+use Rattle.std.specs.List.{AllByRecursion}
 use Rattle.std.proofs.lemmas.Bool.Decides.{nat_tests}
 use Rattle.serna_kinds.specs.declared.expressions.Axis.{Axis}
 use Rattle.serna_kinds.specs.declared.expressions.Axis.TheVariants as axis
 use Rattle.serna_kinds.specs.declared.expressions.NodeTest.{NodeTest}
-use Rattle.xpath_syntax.specs.declared.expr.Expr.{Expr}
-use Rattle.xpath_syntax.specs.declared.expr.Expr.TheVariants as expr
-use Rattle.xpath_syntax.specs.declared.expr.PathStart.TheVariants as start
-use Rattle.xpath_syntax.specs.declared.expr.Step.{Step}
-use Rattle.xpath_syntax.specs.declared.expr.Function.{Function}
-use Rattle.xpath_syntax.specs.declared.symbol.Operator.{Operator}
-use Rattle.xpath_syntax.specs.declared.symbol.Symbol.{Symbol}
-use Rattle.xpath_syntax.specs.declared.symbol.Symbol.TheVariants as symbol
+use Rattle.xpath_trees.specs.declared.expr.Expr.{Expr}
+use Rattle.xpath_trees.specs.declared.expr.Expr.TheVariants as expr
+use Rattle.xpath_trees.specs.declared.expr.PathStart.TheVariants as start
+use Rattle.xpath_trees.specs.declared.expr.Signs.TheVariants as sign
+use Rattle.xpath_trees.specs.declared.expr.Step.{Step}
+use Rattle.xpath_trees.specs.declared.expr.Function.{Function}
+use Rattle.xpath_tokens.specs.declared.symbol.Operator.{Operator}
+use Rattle.xpath_tokens.specs.declared.symbol.Symbol.{Symbol}
+use Rattle.xpath_tokens.specs.declared.symbol.Symbol.TheVariants as symbol
 use Rattle.xpath_syntax.specs.declared.state.Level.{Level}
 use Rattle.xpath_syntax.specs.declared.state.Level.TheVariants as level
 use Rattle.xpath_syntax.specs.declared.state.Path.{Path}
@@ -23,10 +24,11 @@ use Rattle.xpath_syntax.specs.declared.state.Pending.{Pending}
 use Rattle.xpath_syntax.specs.declared.state.Pending.TheVariants as pending
 use Rattle.xpath_syntax.specs.declared.state.Place.TheVariants as place
 use Rattle.xpath_syntax.specs.declared.state.State.{State}
-use Rattle.xpath_syntax.specs.Trees.{self_node, parent_node, any_descendant, level_of, rank, compares_in, ariths_in, chain_tree, filtered, twice, signed}
+use Rattle.xpath_syntax.specs.Trees.{self_node, parent_node, any_descendant, level_of, rank, chain_tree, filtered, signs_past, signed}
 use Rattle.xpath_syntax.specs.Grammar.{Part, part, further, chain, IsChain, signs, IsSigned, Stepped, IsAxis, IsTest, bracketed, trees, IsStep, slash, behind_slash, widened, steps_behind, AreSteps, IsRelative, IsAbsolute, arguments, IsCall, IsGroup, IsPrimary, IsFilter, IsPathFrom, IsPath, IsUnion, IsUnary, IsMultiplicative, IsAdditive, IsRelational, IsEquality, IsAnd, IsOr, IsExprIn, IsExpr}
 use Rattle.xpath_syntax.specs.Machine.{at, here, from_root, with_step, path_tree, operand_tree, whole, path_behind, is_level, chained, longer, begun, closed, behind, after_step, after_operator, is_close, end_call, beginning, after}
-use Rattle.xpath_syntax.proofs.Outcomes.{outcome, not_less, differs, rank-some, Follows, follows_more, Fits, fits_more, fits_closed, fits_operator, same_tree, chain_ends, sign_ends}
+use Rattle.xpath_syntax.proofs.Outcomes.{outcome, rank-some, Follows, follows_more, Fits, fits_more, fits_closed, fits_operator, same_tree, chain_ends, sign_ends}
+use Rattle.xpath_tokens.proofs.Comparing.{not_less, differs}
 
 -- what binds as this number or tighter is read to its end
 abbrev pub Reads : ℕ → (Part → Type 0) → Type 0
@@ -39,22 +41,18 @@ abbrev chain_end : Chain → Expr → List (Operator × Part) → Expr
 chain_end c e [] = chained c e
 chain_end c e (x ∷ xs) = chain_end (longer c e x.0) x.1.tree xs
 
-abbrev trees_of : List (Operator × Part) → List Expr
-trees_of = map (λ (y : Operator × Part). y.1.tree)
+abbrev others_of : List (Operator × Part) → List (Operator × Expr)
+others_of = map (λ (y : Operator × Part). (y.0, y.1.tree))
 
-chain_end-is : (c : Chain) (e : Expr) (xs : List (Operator × Part))
-    → chain_end c e xs ≡ chain_tree c.level (c.operands ++ (e ∷ trees_of xs)) (c.compares ++ flat_map (λ y. compares_in y.0) xs) (c.ariths ++ flat_map (λ y. ariths_in y.0) xs)
-chain_end-is c e [] =
-    ap (λ l. chain_tree c.level (c.operands ++ e ∷ []) l c.ariths) (sym (append-nil c.compares)) ∙ ap (chain_tree c.level (c.operands ++ e ∷ []) (c.compares ++ [])) (sym (append-nil c.ariths))
-chain_end-is c e (x ∷ xs) =
-    let n = longer c e x.0 in
-    let rest = x.1.tree ∷ trees_of xs in
-    let more_compares = flat_map (λ (y : Operator × Part). compares_in y.0) xs in
-    let more_ariths = flat_map (λ (y : Operator × Part). ariths_in y.0) xs in
-    chain_end-is n x.1.tree xs
-    ∙ ap (λ l. chain_tree c.level l (n.compares ++ more_compares) (n.ariths ++ more_ariths)) (append_assoc c.operands (e ∷ []) rest)
-    ∙ ap (λ l. chain_tree c.level (c.operands ++ (e ∷ rest)) l (n.ariths ++ more_ariths)) (append_assoc c.compares (compares_in x.0) more_compares)
-    ∙ ap (chain_tree c.level (c.operands ++ (e ∷ rest)) (c.compares ++ (compares_in x.0 ++ more_compares))) (append_assoc c.ariths (ariths_in x.0) more_ariths)
+chain_end-is : (of : Level) (c : Chain) (e : Expr) (xs : List (Operator × Part)) → level_of c.last ≡ of → AllByRecursion (λ (x : Operator × Part). level_of x.0 ≡ of) xs
+    → chain_end c e xs ≡ chain_tree of c.first (c.others ++ ((c.last, e) ∷ others_of xs))
+chain_end-is of c e [] same all = ap (λ l. chain_tree l c.first (c.others ++ (c.last, e) ∷ [])) same
+chain_end-is of c e (x ∷ xs) same all =
+    chain_end-is of (longer c e x.0) x.1.tree xs all.0 all.1 ∙ ap (chain_tree of c.first) (append_assoc c.others ((c.last, e) ∷ []) ((x.0, x.1.tree) ∷ others_of xs))
+
+levels : (of : Level) (Is : Part → Type 0) (xs : List (Operator × Part)) → AllByRecursion (λ x. (level_of x.0 ≡ of) × Is x.1) xs → AllByRecursion (λ (x : Operator × Part). level_of x.0 ≡ of) xs
+levels of Is [] all = tt
+levels of Is (x ∷ xs) all = (all.0.0, levels of Is xs all.1)
 
 same_rank : (a b : Level) → a ≡ b → is_level a b ≡ true
 same_rank a b e = let f : rank a ≡ rank b = ap rank e in equal (rank a) (rank b) f
@@ -64,23 +62,23 @@ same_rank a b e = let f : rank a ≡ rank b = ap rank e in equal (rank a) (rank 
 
 module _ (of : Level) (k : ℕ) (tighter : rank of < k) (IsOperand : Part → Type 0) (reads : Reads k IsOperand) where
   -- a chain goes on with the operands that are left
-  reads_others : (xs : List (Operator × Part)) → AllByRecursion (λ x. (level_of x.0 ≡ of) × IsOperand x.1) xs → (p : Part) → IsOperand p → (c : Chain) → c.level ≡ of → (s : List Pending)
+  reads_others : (xs : List (Operator × Part)) → AllByRecursion (λ x. (level_of x.0 ≡ of) × IsOperand x.1) xs → (p : Part) → IsOperand p → (c : Chain) → level_of c.last ≡ of → (s : List Pending)
       → (rest : List Symbol) → Follows (rank of) rest
       → outcome (Some (at place.Operand (pending.Chain c ∷ s))) ((p.tokens ++ further xs) ++ rest) ≡ outcome (Some (behind (whole (chain_end c p.tree xs)) s)) rest
   reads_others [] all p is c same s rest f =
-      let level : rank c.level ≡ rank of = ap rank same in
+      let level : rank (level_of c.last) ≡ rank of = ap rank same in
       ap (λ l. outcome (Some (at place.Operand (pending.Chain c ∷ s))) (l ++ rest)) (append-nil p.tokens)
       ∙ reads p is (pending.Chain c ∷ s) (omega arith) rest (follows_more (rank of) k (omega arith) rest f)
       ∙ chain_ends (whole p.tree) c s (rank of) (omega arith) (rank-some of) rest f
   reads_others (x ∷ xs) all p is c same s rest f =
-      let level : rank c.level ≡ rank of = ap rank same in
+      let level : rank (level_of c.last) ≡ rank of = ap rank same in
       let next : rank (level_of x.0) ≡ rank of = ap rank all.0.0 in
       let more = (x.1.tokens ++ further xs) ++ rest in
       ap (outcome (Some (at place.Operand (pending.Chain c ∷ s)))) (append_assoc p.tokens (further (x ∷ xs)) rest)
       ∙ reads p is (pending.Chain c ∷ s) (omega arith) (symbol.Operator x.0 ∷ more) (omega arith)
-      ∙ ap (λ b. outcome (Some (after_operator x.0 (cond b (closed (rank (level_of x.0)) (chained c p.tree) s) (p.tree, pending.Chain c ∷ s)))) more) (not_less (rank (level_of x.0)) (rank c.level) (omega arith))
-      ∙ ap (λ b. outcome (Some (at place.Operand (cond b (pending.Chain (longer c p.tree x.0) ∷ s) (pending.Chain (begun p.tree x.0) ∷ (pending.Chain c ∷ s))))) more) (same_rank c.level (level_of x.0) (same ∙ sym all.0.0))
-      ∙ reads_others xs all.1 x.1 all.0.1 (longer c p.tree x.0) same s rest f
+      ∙ ap (λ b. outcome (Some (after_operator x.0 (cond b (closed (rank (level_of x.0)) (chained c p.tree) s) (p.tree, pending.Chain c ∷ s)))) more) (not_less (rank (level_of x.0)) (rank (level_of c.last)) (omega arith))
+      ∙ ap (λ b. outcome (Some (at place.Operand (cond b (pending.Chain (longer c p.tree x.0) ∷ s) (pending.Chain (begun p.tree x.0) ∷ (pending.Chain c ∷ s))))) more) (same_rank (level_of c.last) (level_of x.0) (same ∙ sym all.0.0))
+      ∙ reads_others xs all.1 x.1 all.0.1 (longer c p.tree x.0) all.0.0 s rest f
 
   pub reads_chain : Reads (rank of) (IsChain of IsOperand)
   reads_chain p is s fits rest f =
@@ -101,7 +99,7 @@ module _ (of : Level) (k : ℕ) (tighter : rank of < k) (IsOperand : Part → Ty
           ∙ ap (λ c. outcome (Some (after_operator x.0 c)) more) (fits_closed (rank (level_of x.0)) e s fit)
           ∙ ap (λ t. outcome (Some (at place.Operand t)) more) (fits_operator x.0 e s fit)
           ∙ reads_others xs all.1 x.1 all.0.1 (begun e x.0) all.0.0 s rest f
-          ∙ ap (λ t. outcome (Some (behind (whole t) s)) rest) (chain_end-is (begun e x.0) x.1.tree xs ∙ ap (λ l. chain_tree l (e ∷ (x.1.tree ∷ trees_of xs)) (flat_map (λ (y : Operator × Part). compares_in y.0) (x ∷ xs)) (flat_map (λ (y : Operator × Part). ariths_in y.0) (x ∷ xs))) all.0.0)
+          ∙ ap (λ t. outcome (Some (behind (whole t) s)) rest) (chain_end-is of (begun e x.0) x.1.tree xs all.0.0 (levels of IsOperand xs all.1))
 
 -- Minus signs
 
@@ -114,17 +112,17 @@ plus-is zero n = omega arith
 plus-is (suc m) n = let e = plus-is m (suc n) in let f : m + suc n ≡ suc m + n = omega arith in e ∙ f
 
 reads_signs : (m n : ℕ) (s : List Pending) (rest : List Symbol)
-    → outcome (Some (at place.Operand (pending.Minus (twice n) ∷ s))) (signs m ++ rest) ≡ outcome (Some (at place.Operand (pending.Minus (twice (plus m n)) ∷ s))) rest
+    → outcome (Some (at place.Operand (pending.Minus (signs_past n) ∷ s))) (signs m ++ rest) ≡ outcome (Some (at place.Operand (pending.Minus (signs_past (plus m n)) ∷ s))) rest
 reads_signs zero n s rest = refl
 reads_signs (suc m) n s rest = reads_signs m (suc n) s rest
 
 -- the first minus sign
 reads_sign : (s : List Pending) → Fits 7 s → (rest : List Symbol)
-    → outcome (Some (at place.Operand s)) (signs 1 ++ rest) ≡ outcome (Some (at place.Operand (pending.Minus false ∷ s))) rest
+    → outcome (Some (at place.Operand s)) (signs 1 ++ rest) ≡ outcome (Some (at place.Operand (pending.Minus sign.Once ∷ s))) rest
 reads_sign [] fits rest = refl
 reads_sign (pending.Chain c ∷ s) fits rest =
-    ap (λ b. outcome (cond b None (Some (at place.Operand (pending.Minus false ∷ (pending.Chain c ∷ s))))) rest) (differs (rank c.level) 8 (omega arith))
-reads_sign (pending.Minus double ∷ s) fits rest = absurd (omega arith)
+    ap (λ b. outcome (cond b None (Some (at place.Operand (pending.Minus sign.Once ∷ (pending.Chain c ∷ s))))) rest) (differs (rank (level_of c.last)) 8 (omega arith))
+reads_sign (pending.Minus so_far ∷ s) fits rest = absurd (omega arith)
 reads_sign (pending.Group ∷ s) fits rest = refl
 reads_sign (pending.Call f args ∷ s) fits rest = refl
 reads_sign (pending.Predicate o ∷ s) fits rest = refl
@@ -142,13 +140,13 @@ reads_signed IsOperand reads p is s fits rest f =
     go zero = reads is.plain is.plain_is s (fits_more 7 8 (omega arith) s fits) rest (follows_more 7 8 (omega arith) rest f)
     go (suc m) =
         let sum : plus m 0 ≡ m = (let g = plus-is m 0 in omega arith) in
-        let all = pending.Minus (twice m) ∷ s in
+        let all = pending.Minus (signs_past m) ∷ s in
         reads_sign s fits ((signs m ++ is.plain.tokens) ++ rest)
-        ∙ ap (outcome (Some (at place.Operand (pending.Minus false ∷ s)))) (append_assoc (signs m) is.plain.tokens rest)
+        ∙ ap (outcome (Some (at place.Operand (pending.Minus sign.Once ∷ s)))) (append_assoc (signs m) is.plain.tokens rest)
         ∙ reads_signs m 0 s (is.plain.tokens ++ rest)
-        ∙ ap (λ n. outcome (Some (at place.Operand (pending.Minus (twice n) ∷ s))) (is.plain.tokens ++ rest)) sum
+        ∙ ap (λ n. outcome (Some (at place.Operand (pending.Minus (signs_past n) ∷ s))) (is.plain.tokens ++ rest)) sum
         ∙ reads is.plain is.plain_is all (omega arith) rest (follows_more 7 8 (omega arith) rest f)
-        ∙ sign_ends (whole is.plain.tree) (twice m) s 7 (omega arith) (omega arith) rest f
+        ∙ sign_ends (whole is.plain.tree) (signs_past m) s 7 (omega arith) (omega arith) rest f
 
 -- Predicates
 

@@ -1,9 +1,9 @@
 -- Each state that is reached can be ended: an expression can begin with what the machine has taken, and with nothing else.
 use Rattle.std.proofs.Common.{◌≡◌, ◌≤◌, ℕ, zero, suc, List, [], ◌∷◌, ◌++◌, length, Option, Some, None, sym, refl, ap, ◌∙◌, subst, append_assoc, append-nil, arith}
-use Rattle.xpath_syntax.specs.declared.expr.Expr.{Expr}
-use Rattle.xpath_syntax.specs.declared.expr.Expr.TheVariants as expr
-use Rattle.xpath_syntax.specs.declared.symbol.Symbol.{Symbol}
-use Rattle.xpath_syntax.specs.declared.symbol.Symbol.TheVariants as symbol
+use Rattle.xpath_trees.specs.declared.expr.Expr.{Expr}
+use Rattle.xpath_trees.specs.declared.expr.Expr.TheVariants as expr
+use Rattle.xpath_tokens.specs.declared.symbol.Symbol.{Symbol}
+use Rattle.xpath_tokens.specs.declared.symbol.Symbol.TheVariants as symbol
 use Rattle.xpath_syntax.specs.declared.state.Operand.{Operand}
 use Rattle.xpath_syntax.specs.declared.state.Operand.TheVariants as operand
 use Rattle.xpath_syntax.specs.declared.state.Pending.{Pending}
@@ -11,7 +11,7 @@ use Rattle.xpath_syntax.specs.declared.state.Pending.TheVariants as pending
 use Rattle.xpath_syntax.specs.declared.state.Place.{Place}
 use Rattle.xpath_syntax.specs.declared.state.Place.TheVariants as place
 use Rattle.xpath_syntax.specs.declared.state.State.{State}
-use Rattle.xpath_syntax.specs.Trees.{self_node}
+use Rattle.xpath_syntax.specs.Trees.{self_node, level_of}
 use Rattle.xpath_syntax.specs.Machine.{at, here, with_step, operand_tree, whole, chained, behind, beginning, after, finish, run}
 use Rattle.xpath_syntax.specs.Grammar.{IsExpr}
 use Rattle.xpath_syntax.specs.Stops.{BeginsBy}
@@ -26,7 +26,7 @@ use Rattle.xpath_syntax.proofs.Steps.{Moved, has_more, has_begun, is_expr}
 abbrev closers : List Pending → List Symbol
 closers [] = []
 closers (pending.Chain c ∷ s) = closers s
-closers (pending.Minus double ∷ s) = closers s
+closers (pending.Minus signs ∷ s) = closers s
 closers (pending.Group ∷ s) = symbol.Close ∷ closers s
 closers (pending.Call g args ∷ s) = symbol.Close ∷ closers s
 closers (pending.Predicate o ∷ s) = symbol.CloseBracket ∷ closers s
@@ -34,7 +34,7 @@ closers (pending.Predicate o ∷ s) = symbol.CloseBracket ∷ closers s
 closers_follow : (s : List Pending) → Follows 1 (closers s)
 closers_follow [] = tt
 closers_follow (pending.Chain c ∷ s) = closers_follow s
-closers_follow (pending.Minus double ∷ s) = closers_follow s
+closers_follow (pending.Minus signs ∷ s) = closers_follow s
 closers_follow (pending.Group ∷ s) = tt
 closers_follow (pending.Call g args ∷ s) = tt
 closers_follow (pending.Predicate o ∷ s) = tt
@@ -46,10 +46,10 @@ operand_ends : (d : ℕ) (s : List Pending) (before : List Symbol) → Front d s
 operand_ends d [] before front o = (operand_tree o, refl)
 operand_ends d (pending.Chain c ∷ s) before front o =
     let rest = operand_ends d s front.start front.rest (whole (chained c (operand_tree o))) in
-    (rest.0, chain_ends o c s 1 (let some = rank-some c.level in omega arith) (omega arith) (closers s) (closers_follow s) ∙ rest.1)
-operand_ends d (pending.Minus double ∷ s) before front o =
-    let rest = operand_ends d s front.start front.rest (whole (expr.Negate double (operand_tree o))) in
-    (rest.0, sign_ends o double s 1 (omega arith) (omega arith) (closers s) (closers_follow s) ∙ rest.1)
+    (rest.0, chain_ends o c s 1 (let some = rank-some (level_of c.last) in omega arith) (omega arith) (closers s) (closers_follow s) ∙ rest.1)
+operand_ends d (pending.Minus signs ∷ s) before front o =
+    let rest = operand_ends d s front.start front.rest (whole (expr.Negate signs (operand_tree o))) in
+    (rest.0, sign_ends o signs s 1 (omega arith) (omega arith) (closers s) (closers_follow s) ∙ rest.1)
 operand_ends d (pending.Group ∷ s) before (start, front, same) o = operand_ends (suc d) s start front (whole (operand_tree o))
 operand_ends d (pending.Call g args ∷ s) before (start, given, front, all, same, e) o = operand_ends (suc d) s start front (whole (expr.Call g (args ++ operand_tree o ∷ [])))
 operand_ends d (pending.Predicate operand.Root ∷ s) before (start, tokens, front, is, same, may) o = absurd may

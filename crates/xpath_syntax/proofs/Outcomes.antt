@@ -1,11 +1,12 @@
 -- What tokens lead to, and what the end of an operand does to what waits for it.
 use Rattle.std.proofs.Common.{◌≡◌, ◌<◌, ◌≤◌, ◌==◌, ℕ, Bool, true, false, cond, nat_lt, List, [], ◌∷◌, Option, Some, None, refl, ap, arith}
 use Rattle.std.proofs.lemmas.Bool.Decides.{nat_tests}
-use Rattle.xpath_syntax.specs.declared.expr.Expr.{Expr}
-use Rattle.xpath_syntax.specs.declared.expr.Expr.TheVariants as expr
-use Rattle.xpath_syntax.specs.declared.symbol.Operator.{Operator}
-use Rattle.xpath_syntax.specs.declared.symbol.Symbol.{Symbol}
-use Rattle.xpath_syntax.specs.declared.symbol.Symbol.TheVariants as symbol
+use Rattle.xpath_trees.specs.declared.expr.Expr.{Expr}
+use Rattle.xpath_trees.specs.declared.expr.Expr.TheVariants as expr
+use Rattle.xpath_trees.specs.declared.expr.Signs.{Signs}
+use Rattle.xpath_tokens.specs.declared.symbol.Operator.{Operator}
+use Rattle.xpath_tokens.specs.declared.symbol.Symbol.{Symbol}
+use Rattle.xpath_tokens.specs.declared.symbol.Symbol.TheVariants as symbol
 use Rattle.xpath_syntax.specs.declared.state.Level.{Level}
 use Rattle.xpath_syntax.specs.declared.state.Level.TheVariants as level
 use Rattle.xpath_syntax.specs.declared.state.Operand.{Operand}
@@ -13,6 +14,7 @@ use Rattle.xpath_syntax.specs.declared.state.Chain.{Chain}
 use Rattle.xpath_syntax.specs.declared.state.Pending.{Pending}
 use Rattle.xpath_syntax.specs.declared.state.Pending.TheVariants as pending
 use Rattle.xpath_syntax.specs.declared.state.State.{State}
+use Rattle.xpath_tokens.proofs.Comparing.{less, not_less, differs}
 use Rattle.xpath_syntax.specs.Trees.{level_of, rank}
 use Rattle.xpath_syntax.specs.Machine.{behind, whole, operand_tree, chained, begun, closed, with_operator, longer, after_operator, end_group, end_predicate, next_argument, finished_in, after, finish}
 
@@ -21,15 +23,6 @@ abbrev pub outcome : Option State → List Symbol → Option Expr
 outcome None ts = None
 outcome (Some s) [] = finish s
 outcome (Some s) (t ∷ ts) = outcome (after s t) ts
-
-pub less : (a b : ℕ) → a < b → nat_lt a b ≡ true
-less a b h = grind (arith, nat_tests)
-
-pub not_less : (a b : ℕ) → b ≤ a → nat_lt a b ≡ false
-not_less a b h = grind (arith, nat_tests)
-
-pub differs : (a b : ℕ) → a < b → (a == b) ≡ false
-differs a b h = grind (arith, nat_tests)
 
 pub rank-some : (l : Level) → 0 < rank l
 rank-some level.Or = omega arith
@@ -66,8 +59,8 @@ follows_more k m le (t ∷ ts) f = go t f
 -- what waits binds less than this number, as far as it comes before a bracket
 abbrev pub Fits : ℕ → List Pending → Type 0
 Fits k [] = Unit {0}
-Fits k (pending.Chain c ∷ s) = rank c.level < k
-Fits k (pending.Minus double ∷ s) = 7 < k
+Fits k (pending.Chain c ∷ s) = rank (level_of c.last) < k
+Fits k (pending.Minus signs ∷ s) = 7 < k
 Fits k (pending.Group ∷ s) = Unit {0}
 Fits k (pending.Call f args ∷ s) = Unit {0}
 Fits k (pending.Predicate o ∷ s) = Unit {0}
@@ -75,7 +68,7 @@ Fits k (pending.Predicate o ∷ s) = Unit {0}
 pub fits_more : (k m : ℕ) → k ≤ m → (s : List Pending) → Fits k s → Fits m s
 fits_more k m le [] f = tt
 fits_more k m le (pending.Chain c ∷ s) f = omega arith
-fits_more k m le (pending.Minus double ∷ s) f = omega arith
+fits_more k m le (pending.Minus signs ∷ s) f = omega arith
 fits_more k m le (pending.Group ∷ s) f = tt
 fits_more k m le (pending.Call g args ∷ s) f = tt
 fits_more k m le (pending.Predicate o ∷ s) f = tt
@@ -84,9 +77,9 @@ fits_more k m le (pending.Predicate o ∷ s) f = tt
 pub fits_closed : (k : ℕ) (e : Expr) (s : List Pending) → Fits k s → closed k e s ≡ (e, s)
 fits_closed k e [] f = refl
 fits_closed k e (pending.Chain c ∷ s) f =
-    ap (λ b. cond b (closed k (chained c e) s) (e, pending.Chain c ∷ s)) (not_less k (rank c.level) (omega arith))
-fits_closed k e (pending.Minus double ∷ s) f =
-    ap (λ b. cond b (closed k (expr.Negate double e) s) (e, pending.Minus double ∷ s)) (not_less k 7 (omega arith))
+    ap (λ b. cond b (closed k (chained c e) s) (e, pending.Chain c ∷ s)) (not_less k (rank (level_of c.last)) (omega arith))
+fits_closed k e (pending.Minus signs ∷ s) f =
+    ap (λ b. cond b (closed k (expr.Negate signs e) s) (e, pending.Minus signs ∷ s)) (not_less k 7 (omega arith))
 fits_closed k e (pending.Group ∷ s) f = refl
 fits_closed k e (pending.Call g args ∷ s) f = refl
 fits_closed k e (pending.Predicate o ∷ s) f = refl
@@ -95,8 +88,8 @@ fits_closed k e (pending.Predicate o ∷ s) f = refl
 pub fits_operator : (op : Operator) (e : Expr) (s : List Pending) → Fits (rank (level_of op)) s → with_operator op e s ≡ pending.Chain (begun e op) ∷ s
 fits_operator op e [] f = refl
 fits_operator op e (pending.Chain c ∷ s) f =
-    ap (λ b. cond b (pending.Chain (longer c e op) ∷ s) (pending.Chain (begun e op) ∷ (pending.Chain c ∷ s))) (differs (rank c.level) (rank (level_of op)) f)
-fits_operator op e (pending.Minus double ∷ s) f = refl
+    ap (λ b. cond b (pending.Chain (longer c e op) ∷ s) (pending.Chain (begun e op) ∷ (pending.Chain c ∷ s))) (differs (rank (level_of c.last)) (rank (level_of op)) f)
+fits_operator op e (pending.Minus signs ∷ s) f = refl
 fits_operator op e (pending.Group ∷ s) f = refl
 fits_operator op e (pending.Call g args ∷ s) f = refl
 fits_operator op e (pending.Predicate o ∷ s) f = refl
@@ -128,15 +121,15 @@ put_together o p s e k same some (t ∷ ts) f = go t f
     go _ g = absurd g
 
 -- a chain with its last operand
-pub chain_ends : (o : Operand) (c : Chain) (s : List Pending) (k : ℕ) → k ≤ rank c.level → 0 < k → (rest : List Symbol) → Follows k rest
+pub chain_ends : (o : Operand) (c : Chain) (s : List Pending) (k : ℕ) → k ≤ rank (level_of c.last) → 0 < k → (rest : List Symbol) → Follows k rest
     → outcome (Some (behind o (pending.Chain c ∷ s))) rest ≡ outcome (Some (behind (whole (chained c (operand_tree o))) s)) rest
 chain_ends o c s k le some rest f =
     put_together o (pending.Chain c) s (chained c (operand_tree o)) k
-    (λ least lt. ap (λ b. cond b (closed least (chained c (operand_tree o)) s) (operand_tree o, pending.Chain c ∷ s)) (less least (rank c.level) (omega arith))) some rest f
+    (λ least lt. ap (λ b. cond b (closed least (chained c (operand_tree o)) s) (operand_tree o, pending.Chain c ∷ s)) (less least (rank (level_of c.last)) (omega arith))) some rest f
 
 -- minus signs with their operand
-pub sign_ends : (o : Operand) (double : Bool) (s : List Pending) (k : ℕ) → k ≤ 7 → 0 < k → (rest : List Symbol) → Follows k rest
-    → outcome (Some (behind o (pending.Minus double ∷ s))) rest ≡ outcome (Some (behind (whole (expr.Negate double (operand_tree o))) s)) rest
-sign_ends o double s k le some rest f =
-    put_together o (pending.Minus double) s (expr.Negate double (operand_tree o)) k
-    (λ least lt. ap (λ b. cond b (closed least (expr.Negate double (operand_tree o)) s) (operand_tree o, pending.Minus double ∷ s)) (less least 7 (omega arith))) some rest f
+pub sign_ends : (o : Operand) (signs : Signs) (s : List Pending) (k : ℕ) → k ≤ 7 → 0 < k → (rest : List Symbol) → Follows k rest
+    → outcome (Some (behind o (pending.Minus signs ∷ s))) rest ≡ outcome (Some (behind (whole (expr.Negate signs (operand_tree o))) s)) rest
+sign_ends o signs s k le some rest f =
+    put_together o (pending.Minus signs) s (expr.Negate signs (operand_tree o)) k
+    (λ least lt. ap (λ b. cond b (closed least (expr.Negate signs (operand_tree o)) s) (operand_tree o, pending.Minus signs ∷ s)) (less least 7 (omega arith))) some rest f

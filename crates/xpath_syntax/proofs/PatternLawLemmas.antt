@@ -1,13 +1,14 @@
 -- A pattern, read as an expression.
 use Rattle.std.proofs.Common.{◌≡◌, Bool, List, [], ◌∷◌, ◌++◌, map, Some, sym, refl, ap, ◌∙◌, inl, inr, append-nil, arith}
 use Rattle.std.specs.List.{AllByRecursion}
-use Rattle.xpath_syntax.specs.declared.expr.Expr.TheVariants as expr
-use Rattle.xpath_syntax.specs.declared.expr.PathStart.TheVariants as start
-use Rattle.xpath_syntax.specs.declared.pattern.Pattern.{Pattern}
+use Rattle.xpath_trees.specs.declared.expr.Expr.{Expr}
+use Rattle.xpath_trees.specs.declared.expr.Expr.TheVariants as expr
+use Rattle.xpath_trees.specs.declared.expr.PathStart.TheVariants as start
+use Rattle.xpath_trees.specs.declared.pattern.Pattern.{Pattern}
 use Rattle.xpath_syntax.specs.declared.state.Level.TheVariants as level
-use Rattle.xpath_syntax.specs.declared.symbol.Operator.{Operator}
-use Rattle.xpath_syntax.specs.declared.symbol.Operator.TheVariants as operator
-use Rattle.xpath_syntax.specs.declared.symbol.Symbol.{Symbol}
+use Rattle.xpath_tokens.specs.declared.symbol.Operator.{Operator}
+use Rattle.xpath_tokens.specs.declared.symbol.Operator.TheVariants as operator
+use Rattle.xpath_tokens.specs.declared.symbol.Symbol.{Symbol}
 use Rattle.xpath_syntax.specs.Trees.{level_of}
 use Rattle.xpath_syntax.specs.Grammar.{Part, part, further, chain, Stepped, slash, behind_slash, widened, AreSteps, IsPath, IsUnion, IsExpr}
 use Rattle.xpath_syntax.specs.Machine.{beginning}
@@ -55,7 +56,7 @@ same_tokens : (qs : List PathPart) → behind_bar qs ≡ further (operands qs)
 same_tokens [] = refl
 same_tokens (q ∷ qs) = ap (λ l. bar ∷ (q.tokens ++ l)) (same_tokens qs)
 
-same_trees : (qs : List PathPart) → map path_of (map (λ (q : PathPart). q.tree) qs) ≡ map (λ (x : Operator × Part). x.1.tree) (operands qs)
+same_trees : (qs : List PathPart) → map path_of (map (λ (q : PathPart). q.tree) qs) ≡ map (λ (x : Operator × Expr). x.1) (map (λ (y : Operator × Part). (y.0, y.1.tree)) (operands qs))
 same_trees [] = refl
 same_trees (q ∷ qs) = ap (λ l. path_of q.tree ∷ l) (same_trees qs)
 

@@ -5,10 +5,10 @@ use Rattle.serna_kinds.specs.declared.expressions.Axis.{Axis}
 use Rattle.serna_kinds.specs.declared.expressions.Axis.TheVariants as axis
 use Rattle.serna_kinds.specs.declared.expressions.NodeTest.{NodeTest}
 use Rattle.serna_kinds.specs.declared.expressions.NodeTest.TheVariants as test
-use Rattle.xpath_syntax.specs.declared.expr.Expr.{Expr}
-use Rattle.xpath_syntax.specs.declared.expr.Step.{Step}
-use Rattle.xpath_syntax.specs.declared.pattern.Alternative.{Alternative}
-use Rattle.xpath_syntax.specs.declared.pattern.Pattern.{Pattern}
+use Rattle.xpath_trees.specs.declared.expr.Expr.{Expr}
+use Rattle.xpath_trees.specs.declared.expr.Step.{Step}
+use Rattle.xpath_trees.specs.declared.pattern.Alternative.{Alternative}
+use Rattle.xpath_trees.specs.declared.pattern.Pattern.{Pattern}
 use Rattle.xpath_syntax.specs.declared.pattern_state.LastStep.{LastStep}
 use Rattle.xpath_syntax.specs.declared.pattern_state.PatternPlace.{PatternPlace}
 use Rattle.xpath_syntax.specs.declared.pattern_state.PatternPlace.TheVariants as place
@@ -17,8 +17,8 @@ use Rattle.xpath_syntax.specs.declared.state.Pending.{Pending}
 use Rattle.xpath_syntax.specs.declared.state.Place.{Place}
 use Rattle.xpath_syntax.specs.declared.state.Place.TheVariants as inner_place
 use Rattle.xpath_syntax.specs.declared.state.State.{State}
-use Rattle.xpath_syntax.specs.declared.symbol.Symbol.{Symbol}
-use Rattle.xpath_syntax.specs.declared.symbol.Symbol.TheVariants as symbol
+use Rattle.xpath_tokens.specs.declared.symbol.Symbol.{Symbol}
+use Rattle.xpath_tokens.specs.declared.symbol.Symbol.TheVariants as symbol
 use Rattle.xpath_syntax.specs.Trees.{any_descendant}
 use Rattle.xpath_syntax.specs.Grammar.{Part, Stepped, IsAxis, IsTest, bracketed, trees, slash, behind_slash, widened, steps_behind}
 use Rattle.xpath_syntax.specs.Machine.{operand_tree, closed, finished_in, finish_in, end_predicate, after_in, beginning, after}

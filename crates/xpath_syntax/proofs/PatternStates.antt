@@ -5,18 +5,18 @@ use Rattle.std.proofs.lemmas.List.{map-append}
 use Rattle.serna_kinds.specs.declared.expressions.Axis.{Axis}
 use Rattle.serna_kinds.specs.declared.expressions.Axis.TheVariants as axis
 use Rattle.serna_kinds.specs.declared.expressions.NodeTest.{NodeTest}
-use Rattle.xpath_syntax.specs.declared.expr.Expr.{Expr}
-use Rattle.xpath_syntax.specs.declared.expr.Step.{Step}
-use Rattle.xpath_syntax.specs.declared.pattern.Alternative.{Alternative}
-use Rattle.xpath_syntax.specs.declared.pattern.Pattern.{Pattern}
+use Rattle.xpath_trees.specs.declared.expr.Expr.{Expr}
+use Rattle.xpath_trees.specs.declared.expr.Step.{Step}
+use Rattle.xpath_trees.specs.declared.pattern.Alternative.{Alternative}
+use Rattle.xpath_trees.specs.declared.pattern.Pattern.{Pattern}
 use Rattle.xpath_syntax.specs.declared.pattern_state.LastStep.{LastStep}
 use Rattle.xpath_syntax.specs.declared.pattern_state.PatternPlace.{PatternPlace}
 use Rattle.xpath_syntax.specs.declared.pattern_state.PatternPlace.TheVariants as place
 use Rattle.xpath_syntax.specs.declared.pattern_state.PatternState.{PatternState}
 use Rattle.xpath_syntax.specs.declared.state.State.{State}
-use Rattle.xpath_syntax.specs.declared.symbol.Operator.TheVariants as operator
-use Rattle.xpath_syntax.specs.declared.symbol.Symbol.{Symbol}
-use Rattle.xpath_syntax.specs.declared.symbol.Symbol.TheVariants as symbol
+use Rattle.xpath_tokens.specs.declared.symbol.Operator.TheVariants as operator
+use Rattle.xpath_tokens.specs.declared.symbol.Symbol.{Symbol}
+use Rattle.xpath_tokens.specs.declared.symbol.Symbol.TheVariants as symbol
 use Rattle.xpath_syntax.specs.Trees.{step_of, any_descendant}
 use Rattle.xpath_syntax.specs.Grammar.{Part, part, Stepped, stepped, IsAxis, IsTest, bracketed, trees, slash, behind_slash, widened, IsExpr}
 use Rattle.xpath_syntax.specs.Machine.{beginning, run, after, finish}

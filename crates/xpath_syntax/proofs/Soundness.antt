@@ -1,21 +1,19 @@
 -- What the machine reads is in the grammar: the tokens so far are those of the state.
 use Rattle.std.proofs.Common.{◌≡◌, ◌≤◌, ◌+◌, ◌-◌, ◌==◌, ℕ, zero, suc, Bool, true, cond, List, [], ◌∷◌, ◌++◌, map, sym, refl, ap, ◌∙◌, subst, append_assoc, append-nil, arith}
-use Rattle.std.specs.List.{AllByRecursion, flat_map}
+use Rattle.std.specs.List.{AllByRecursion}
 use Rattle.std.proofs.lemmas.Bool.Decides.{nat_tests}
 use Rattle.std.proofs.lemmas.List.{map-append}
-use Rattle.std.proofs.lemmas.Grind.{flat_map-append}
-use Rattle.serna_kinds.specs.declared.expressions.CompareOp.{CompareOp}
-use Rattle.xpath_syntax.specs.declared.expr.ArithOp.{ArithOp}
-use Rattle.xpath_syntax.specs.declared.expr.Expr.{Expr}
-use Rattle.xpath_syntax.specs.declared.expr.Expr.TheVariants as expr
-use Rattle.xpath_syntax.specs.declared.symbol.Operator.{Operator}
-use Rattle.xpath_syntax.specs.declared.symbol.Symbol.{Symbol}
-use Rattle.xpath_syntax.specs.declared.symbol.Symbol.TheVariants as symbol
+use Rattle.xpath_trees.specs.declared.expr.Signs.{Signs}
+use Rattle.xpath_trees.specs.declared.expr.Expr.{Expr}
+use Rattle.xpath_trees.specs.declared.expr.Expr.TheVariants as expr
+use Rattle.xpath_tokens.specs.declared.symbol.Operator.{Operator}
+use Rattle.xpath_tokens.specs.declared.symbol.Symbol.{Symbol}
+use Rattle.xpath_tokens.specs.declared.symbol.Symbol.TheVariants as symbol
 use Rattle.xpath_syntax.specs.declared.state.Level.{Level}
 use Rattle.xpath_syntax.specs.declared.state.Level.TheVariants as level
 use Rattle.xpath_syntax.specs.declared.state.Chain.{Chain}
 use Rattle.xpath_syntax.specs.declared.state.Pending.{Pending}
-use Rattle.xpath_syntax.specs.Trees.{level_of, rank, compares_in, ariths_in, chain_tree, twice, signed}
+use Rattle.xpath_syntax.specs.Trees.{level_of, rank, chain_tree, signs_past, signed}
 use Rattle.xpath_syntax.specs.Grammar.{Part, part, further, chain, IsChain, signs, IsSigned, IsPath}
 use Rattle.xpath_syntax.specs.Machine.{is_level, chained}
 use Rattle.xpath_syntax.proofs.Outcomes.{Fits}
@@ -116,14 +114,17 @@ same_level a b e = sym (of_rank-is a) ∙ ap of_rank (equal (rank a) (rank b) e)
 
 -- Chains
 
+-- the further operands of a chain
+abbrev pub others_of : List (Operator × Part) → List (Operator × Expr)
+others_of = map (λ (y : Operator × Part). (y.0, y.1.tree))
+
 pub further-push : (xs : List (Operator × Part)) (op : Operator) (q : Part) → further (xs ++ (op, q) ∷ []) ≡ further xs ++ symbol.Operator op ∷ q.tokens
 further-push [] op q = ap (λ l. symbol.Operator op ∷ l) (append-nil q.tokens)
 further-push (x ∷ xs) op q =
     ap (λ l. symbol.Operator x.0 ∷ l) (ap (λ l. x.1.tokens ++ l) (further-push xs op q) ∙ sym (append_assoc x.1.tokens (further xs) (symbol.Operator op ∷ q.tokens)))
 
 chain-push : (l : Level) (first : Part) (xs : List (Operator × Part)) (x : Operator × Part)
-    → chain l first (xs ++ x ∷ []) ≡ part (first.tokens ++ further (xs ++ x ∷ []))
-    (chain_tree l (first.tree ∷ map (λ (y : Operator × Part). y.1.tree) (xs ++ x ∷ [])) (flat_map (λ (y : Operator × Part). compares_in y.0) (xs ++ x ∷ [])) (flat_map (λ (y : Operator × Part). ariths_in y.0) (xs ++ x ∷ [])))
+    → chain l first (xs ++ x ∷ []) ≡ part (first.tokens ++ further (xs ++ x ∷ [])) (chain_tree l first.tree (others_of (xs ++ x ∷ [])))
 chain-push l first [] x = refl
 chain-push l first (y ∷ ys) x = refl
 
@@ -131,46 +132,34 @@ pub all-push : {X : Type 0} (P : X → Type 0) (xs : List X) (x : X) → AllByRe
 all-push P [] x all is = (is, tt)
 all-push P (y ∷ ys) x all is = (all.0, all-push P ys x all.1 is)
 
-abbrev pub compares_of : List (Operator × Part) → List CompareOp
-compares_of = flat_map (λ (y : Operator × Part). compares_in y.0)
-
-abbrev pub ariths_of : List (Operator × Part) → List ArithOp
-ariths_of = flat_map (λ (y : Operator × Part). ariths_in y.0)
-
-abbrev pub operands_of : List (Operator × Part) → List Expr
-operands_of = map (λ (y : Operator × Part). y.1.tree)
-
 -- the tokens of a chain that waits for an operand, in front of which these tokens stand
 pub record OpenChain (I : Part → Type 0) (c : Chain) (s : List Pending) (Rest : List Symbol → Type 0) (before : List Symbol) : Type 0 where
   pub start : List Symbol
   pub first : Part
   pub others : List (Operator × Part)
-  pub last : Operator
   pub rest : Rest start
-  pub fits : Fits (rank c.level) s
-  pub first_is : tier I (tier_of c.level) first
-  pub others_are : AllByRecursion (λ x. (level_of x.0 ≡ c.level) × tier I (tier_of c.level) x.1) others
-  pub last_is : level_of last ≡ c.level
-  pub operands : c.operands ≡ first.tree ∷ operands_of others
-  pub compares : c.compares ≡ compares_of others ++ compares_in last
-  pub ariths : c.ariths ≡ ariths_of others ++ ariths_in last
-  pub tokens : before ≡ start ++ (first.tokens ++ (further others ++ symbol.Operator last ∷ []))
+  pub fits : Fits (rank (level_of c.last)) s
+  pub first_is : tier I (tier_of (level_of c.last)) first
+  pub others_are : AllByRecursion (λ x. (level_of x.0 ≡ level_of c.last) × tier I (tier_of (level_of c.last)) x.1) others
+  pub first_tree : c.first ≡ first.tree
+  pub other_trees : c.others ≡ others_of others
+  pub tokens : before ≡ start ++ (first.tokens ++ (further others ++ symbol.Operator c.last ∷ []))
 
 -- the tokens of minus signs that wait for their operand
-pub record OpenSign (double : Bool) (s : List Pending) (Rest : List Symbol → Type 0) (before : List Symbol) : Type 0 where
+pub record OpenSign (signs_so_far : Signs) (s : List Pending) (Rest : List Symbol → Type 0) (before : List Symbol) : Type 0 where
   pub start : List Symbol
   pub count : ℕ
   pub rest : Rest start
   pub fits : Fits 7 s
-  pub double_is : double ≡ twice count
+  pub signs_are : signs_so_far ≡ signs_past count
   pub tokens : before ≡ start ++ signs (suc count)
 
 -- a chain with its last operand is a part of its tier
-pub chain_part : (I : Part → Type 0) (c : Chain) (s : List Pending) (Rest : List Symbol → Type 0) (before : List Symbol) (q : Part) → (w : OpenChain I c s Rest before) → tier I (tier_of c.level) q
-    → (p : Part) × tier I (suc (tier_of c.level)) p × (p.tree ≡ chained c q.tree) × (before ++ q.tokens ≡ w.start ++ p.tokens)
+pub chain_part : (I : Part → Type 0) (c : Chain) (s : List Pending) (Rest : List Symbol → Type 0) (before : List Symbol) (q : Part) → (w : OpenChain I c s Rest before) → tier I (tier_of (level_of c.last)) q
+    → (p : Part) × tier I (suc (tier_of (level_of c.last))) p × (p.tree ≡ chained c q.tree) × (before ++ q.tokens ≡ w.start ++ p.tokens)
 chain_part I c s Rest before q w is =
-    let x : Operator × Part = (w.last, q) in
-    let l = c.level in
+    let x : Operator × Part = (c.last, q) in
+    let l = level_of c.last in
     let all = w.others ++ x ∷ [] in
     let p = chain l w.first all in
     let shape = chain-push l w.first w.others x in
@@ -178,34 +167,28 @@ chain_part I c s Rest before q w is =
       first = w.first;
       others = all;
       first_is = w.first_is;
-      others_are = all-push (λ (y : Operator × Part). (level_of y.0 ≡ l) × tier I (tier_of l) y.1) w.others x w.others_are (w.last_is, is);
+      others_are = all-push (λ (y : Operator × Part). (level_of y.0 ≡ l) × tier I (tier_of l) y.1) w.others x w.others_are (refl, is);
       whole_is = refl;
     } in
-    let operands : c.operands ++ q.tree ∷ [] ≡ w.first.tree ∷ operands_of all =
-    ap (λ l. l ++ q.tree ∷ []) w.operands ∙ ap (λ l. w.first.tree ∷ l) (sym (map-append (λ (y : Operator × Part). y.1.tree) w.others (x ∷ []))) in
-    let compares : c.compares ≡ compares_of all =
-    w.compares ∙ ap (λ l. compares_of w.others ++ l) (sym (append-nil (compares_in w.last))) ∙ sym (flat_map-append (λ (y : Operator × Part). compares_in y.0) w.others (x ∷ [])) in
-    let ariths : c.ariths ≡ ariths_of all =
-    w.ariths ∙ ap (λ l. ariths_of w.others ++ l) (sym (append-nil (ariths_in w.last))) ∙ sym (flat_map-append (λ (y : Operator × Part). ariths_in y.0) w.others (x ∷ [])) in (
+    let others : c.others ++ (c.last, q.tree) ∷ [] ≡ others_of all =
+    ap (λ l. l ++ (c.last, q.tree) ∷ []) w.other_trees ∙ sym (map-append (λ (y : Operator × Part). (y.0, y.1.tree)) w.others (x ∷ [])) in (
       p,
       chain_in_tier I l p is_chain,
-      ap (λ (y : Part). y.tree) shape
-          ∙ sym (ap (λ o. chain_tree l o c.compares c.ariths) operands ∙ ap (λ o. chain_tree l (w.first.tree ∷ operands_of all) o c.ariths) compares
-          ∙ ap (chain_tree l (w.first.tree ∷ operands_of all) (compares_of all)) ariths),
+      ap (λ (y : Part). y.tree) shape ∙ sym (ap (λ f. chain_tree l f (c.others ++ (c.last, q.tree) ∷ [])) w.first_tree ∙ ap (chain_tree l w.first.tree) others),
       ap (λ l. l ++ q.tokens) w.tokens
-          ∙ append_assoc w.start (w.first.tokens ++ (further w.others ++ symbol.Operator w.last ∷ [])) q.tokens
-          ∙ ap (λ l. w.start ++ l) (append_assoc w.first.tokens (further w.others ++ symbol.Operator w.last ∷ []) q.tokens
-          ∙ ap (λ l. w.first.tokens ++ l) (append_assoc (further w.others) (symbol.Operator w.last ∷ []) q.tokens ∙ sym (further-push w.others w.last q)))
+          ∙ append_assoc w.start (w.first.tokens ++ (further w.others ++ symbol.Operator c.last ∷ [])) q.tokens
+          ∙ ap (λ l. w.start ++ l) (append_assoc w.first.tokens (further w.others ++ symbol.Operator c.last ∷ []) q.tokens
+          ∙ ap (λ l. w.first.tokens ++ l) (append_assoc (further w.others) (symbol.Operator c.last ∷ []) q.tokens ∙ sym (further-push w.others c.last q)))
           ∙ ap (λ (y : Part). w.start ++ y.tokens) (sym shape),
     )
 
 -- minus signs with their operand
-pub sign_part : (I : Part → Type 0) (double : Bool) (s : List Pending) (Rest : List Symbol → Type 0) (before : List Symbol) (q : Part) → (w : OpenSign double s Rest before) → tier I 1 q
-    → (p : Part) × tier I 2 p × (p.tree ≡ expr.Negate double q.tree) × (before ++ q.tokens ≡ w.start ++ p.tokens)
-sign_part I double s Rest before q w is =
+pub sign_part : (I : Part → Type 0) (so_far : Signs) (s : List Pending) (Rest : List Symbol → Type 0) (before : List Symbol) (q : Part) → (w : OpenSign so_far s Rest before) → tier I 1 q
+    → (p : Part) × tier I 2 p × (p.tree ≡ expr.Negate so_far q.tree) × (before ++ q.tokens ≡ w.start ++ p.tokens)
+sign_part I so_far s Rest before q w is =
     let p = part (signs (suc w.count) ++ q.tokens) (signed (suc w.count) q.tree) in (
       p,
       record { count = suc w.count; plain = q; plain_is = is; whole_is = refl },
-      ap (λ b. expr.Negate b q.tree) (sym w.double_is),
+      ap (λ b. expr.Negate b q.tree) (sym w.signs_are),
       ap (λ l. l ++ q.tokens) w.tokens ∙ append_assoc w.start (signs (suc w.count)) q.tokens,
     )

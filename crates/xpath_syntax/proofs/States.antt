@@ -4,13 +4,13 @@ use Rattle.std.specs.List.{AllByRecursion}
 use Rattle.std.proofs.lemmas.Bool.Decides.{nat_tests}
 use Rattle.serna_kinds.specs.declared.expressions.Axis.{Axis}
 use Rattle.serna_kinds.specs.declared.expressions.NodeTest.{NodeTest}
-use Rattle.xpath_syntax.specs.declared.expr.Expr.{Expr}
-use Rattle.xpath_syntax.specs.declared.expr.Expr.TheVariants as expr
-use Rattle.xpath_syntax.specs.declared.expr.PathStart.TheVariants as start
-use Rattle.xpath_syntax.specs.declared.expr.Step.{Step}
-use Rattle.xpath_syntax.specs.declared.expr.Function.{Function}
-use Rattle.xpath_syntax.specs.declared.symbol.Symbol.{Symbol}
-use Rattle.xpath_syntax.specs.declared.symbol.Symbol.TheVariants as symbol
+use Rattle.xpath_trees.specs.declared.expr.Expr.{Expr}
+use Rattle.xpath_trees.specs.declared.expr.Expr.TheVariants as expr
+use Rattle.xpath_trees.specs.declared.expr.PathStart.TheVariants as start
+use Rattle.xpath_trees.specs.declared.expr.Step.{Step}
+use Rattle.xpath_trees.specs.declared.expr.Function.{Function}
+use Rattle.xpath_tokens.specs.declared.symbol.Symbol.{Symbol}
+use Rattle.xpath_tokens.specs.declared.symbol.Symbol.TheVariants as symbol
 use Rattle.xpath_syntax.specs.declared.state.Path.{Path}
 use Rattle.xpath_syntax.specs.declared.state.Operand.{Operand}
 use Rattle.xpath_syntax.specs.declared.state.Operand.TheVariants as operand
@@ -19,7 +19,7 @@ use Rattle.xpath_syntax.specs.declared.state.Pending.TheVariants as pending
 use Rattle.xpath_syntax.specs.declared.state.Place.{Place}
 use Rattle.xpath_syntax.specs.declared.state.Place.TheVariants as place
 use Rattle.xpath_syntax.specs.declared.state.State.{State}
-use Rattle.xpath_syntax.specs.Trees.{step_of, any_descendant, rank, filtered}
+use Rattle.xpath_syntax.specs.Trees.{step_of, any_descendant, level_of, rank, filtered}
 use Rattle.xpath_syntax.specs.Grammar.{Part, part, Stepped, stepped, IsAxis, IsTest, bracketed, trees, IsStep, slash, behind_slash, widened, steps_behind, AreSteps, IsPrimary, IsFilter, IsPath, IsExprIn}
 use Rattle.xpath_syntax.specs.Machine.{here, from_root, with_step, path_tree, operand_tree, chained, closed}
 use Rattle.xpath_syntax.proofs.Outcomes.{Fits, rank-some}
@@ -222,7 +222,7 @@ MayFilter (operand.Primary e predicates) = Unit {0}
 abbrev pub Front : ℕ → List Pending → List Symbol → Type 0
 Front d [] before = before ≡ []
 Front d (pending.Chain c ∷ s) before = OpenChain (IsExprIn d) c s (Front d s) before
-Front d (pending.Minus double ∷ s) before = OpenSign double s (Front d s) before
+Front d (pending.Minus signs ∷ s) before = OpenSign signs s (Front d s) before
 Front d (pending.Group ∷ s) before = (start : List Symbol) × Front (suc d) s start × (before ≡ start ++ symbol.Open ∷ [])
 Front d (pending.Call g args ∷ s) before = (start : List Symbol) × (given : List Part) × Front (suc d) s start × AllByRecursion (IsExprIn (suc d)) given × (args ≡ trees given)
     × (before ≡ start ++ (symbol.Callee g ∷ (symbol.Open ∷ ended given)))
@@ -256,8 +256,8 @@ Has d state tokens = HasIn d state.place state.stack tokens
 -- the tier of a part fits what waits for it
 abbrev pub FitsTier : ℕ → List Pending → Type 0
 FitsTier n [] = n ≤ 8
-FitsTier n (pending.Chain c ∷ s) = n ≤ tier_of c.level
-FitsTier n (pending.Minus double ∷ s) = n ≤ 1
+FitsTier n (pending.Chain c ∷ s) = n ≤ tier_of (level_of c.last)
+FitsTier n (pending.Minus signs ∷ s) = n ≤ 1
 FitsTier n (pending.Group ∷ s) = n ≤ 8
 FitsTier n (pending.Call g args ∷ s) = n ≤ 8
 FitsTier n (pending.Predicate o ∷ s) = n ≤ 8
@@ -265,16 +265,16 @@ FitsTier n (pending.Predicate o ∷ s) = n ≤ 8
 -- what waits on top does not bind tighter than this number
 abbrev pub IsClosed : ℕ → List Pending → Type 0
 IsClosed least [] = Unit {0}
-IsClosed least (pending.Chain c ∷ s) = rank c.level ≤ least
-IsClosed least (pending.Minus double ∷ s) = 7 ≤ least
+IsClosed least (pending.Chain c ∷ s) = rank (level_of c.last) ≤ least
+IsClosed least (pending.Minus signs ∷ s) = 7 ≤ least
 IsClosed least (pending.Group ∷ s) = Unit {0}
 IsClosed least (pending.Call g args ∷ s) = Unit {0}
 IsClosed least (pending.Predicate o ∷ s) = Unit {0}
 
 fits_tier : (k n : ℕ) → k + n ≤ 9 → k ≤ 8 → n ≤ 8 → (s : List Pending) → Fits k s → FitsTier n s
 fits_tier k n le few low [] f = low
-fits_tier k n le few low (pending.Chain c ∷ s) f = let e = rank-tier c.level in omega arith
-fits_tier k n le few low (pending.Minus double ∷ s) f = omega arith
+fits_tier k n le few low (pending.Chain c ∷ s) f = let e = rank-tier (level_of c.last) in omega arith
+fits_tier k n le few low (pending.Minus signs ∷ s) f = omega arith
 fits_tier k n le few low (pending.Group ∷ s) f = low
 fits_tier k n le few low (pending.Call g args ∷ s) f = low
 fits_tier k n le few low (pending.Predicate o ∷ s) f = low
@@ -324,21 +324,21 @@ put_together d least n le (pending.Group ∷ s) e before q front is fits small s
 put_together d least n le (pending.Call g args ∷ s) e before q front is fits small same = put d least n _ e before q front is fits small tt same
 put_together d least n le (pending.Predicate o ∷ s) e before q front is fits small same = put d least n _ e before q front is fits small tt same
 put_together d least n le (pending.Chain c ∷ s) e before q front is fits small same =
-    let (p, p_is, tree, tokens) = chain_part (IsExprIn d) c s (Front d s) before q front (lift (IsExprIn d) n (tier_of c.level) fits q is) in
-    let sum : rank c.level + tier_of c.level ≡ 8 = rank-tier c.level in
-    let some : 0 < rank c.level = rank-some c.level in
-    choose d least (rank c.level) (closed least (chained c e) s) (e, pending.Chain c ∷ s) (before ++ q.tokens) (nat_lt least (rank c.level)) refl
+    let (p, p_is, tree, tokens) = chain_part (IsExprIn d) c s (Front d s) before q front (lift (IsExprIn d) n (tier_of (level_of c.last)) fits q is) in
+    let sum : rank (level_of c.last) + tier_of (level_of c.last) ≡ 8 = rank-tier (level_of c.last) in
+    let some : 0 < rank (level_of c.last) = rank-some (level_of c.last) in
+    choose d least (rank (level_of c.last)) (closed least (chained c e) s) (e, pending.Chain c ∷ s) (before ++ q.tokens) (nat_lt least (rank (level_of c.last))) refl
     (λ low. subst (PutTogether d least (closed least (chained c e) s)) (sym tokens)
-    (put_together d least (suc (tier_of c.level)) le s (chained c e) front.start p front.rest p_is
-    (fits_tier (rank c.level) (suc (tier_of c.level)) (omega arith) (omega arith) (omega arith) s front.fits) (omega arith) (ap (chained c) same ∙ sym tree)))
+    (put_together d least (suc (tier_of (level_of c.last))) le s (chained c e) front.start p front.rest p_is
+    (fits_tier (rank (level_of c.last)) (suc (tier_of (level_of c.last))) (omega arith) (omega arith) (omega arith) s front.fits) (omega arith) (ap (chained c) same ∙ sym tree)))
     (λ low. put d least n (pending.Chain c ∷ s) e before q front is fits small low same)
-put_together d least n le (pending.Minus double ∷ s) e before q front is fits small same =
-    let (p, p_is, tree, tokens) = sign_part (IsExprIn d) double s (Front d s) before q front (lift (IsExprIn d) n 1 fits q is) in
-    choose d least 7 (closed least (expr.Negate double e) s) (e, pending.Minus double ∷ s) (before ++ q.tokens) (nat_lt least 7) refl
-    (λ low. subst (PutTogether d least (closed least (expr.Negate double e) s)) (sym tokens)
-    (put_together d least 2 le s (expr.Negate double e) front.start p front.rest p_is
-    (fits_tier 7 2 (omega arith) (omega arith) (omega arith) s front.fits) (omega arith) (ap (expr.Negate double) same ∙ sym tree)))
-    (λ low. put d least n (pending.Minus double ∷ s) e before q front is fits small low same)
+put_together d least n le (pending.Minus signs ∷ s) e before q front is fits small same =
+    let (p, p_is, tree, tokens) = sign_part (IsExprIn d) signs s (Front d s) before q front (lift (IsExprIn d) n 1 fits q is) in
+    choose d least 7 (closed least (expr.Negate signs e) s) (e, pending.Minus signs ∷ s) (before ++ q.tokens) (nat_lt least 7) refl
+    (λ low. subst (PutTogether d least (closed least (expr.Negate signs e) s)) (sym tokens)
+    (put_together d least 2 le s (expr.Negate signs e) front.start p front.rest p_is
+    (fits_tier 7 2 (omega arith) (omega arith) (omega arith) s front.fits) (omega arith) (ap (expr.Negate signs) same ∙ sym tree)))
+    (λ low. put d least n (pending.Minus signs ∷ s) e before q front is fits small low same)
 
 -- an operand that ends is put together with what waits for it
 pub ends : (d least : ℕ) → least ≤ 8 → (o : Operand) (s : List Pending) (before inside : List Symbol) → Front d s before → IsOperand (IsExprIn d) o inside
@@ -349,7 +349,7 @@ ends d least le o s before inside front is =
     low : (t : List Pending) → FitsTier 0 t
     low [] = omega arith
     low (pending.Chain c ∷ t) = omega arith
-    low (pending.Minus double ∷ t) = omega arith
+    low (pending.Minus signs ∷ t) = omega arith
     low (pending.Group ∷ t) = omega arith
     low (pending.Call g args ∷ t) = omega arith
     low (pending.Predicate o ∷ t) = omega arith

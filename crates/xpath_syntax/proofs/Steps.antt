@@ -1,20 +1,21 @@
 -- Each token that the machine takes keeps what is said of its state, and so what it reads is an expression.
+use Rattle.std.specs.List.{AllByRecursion}
 use Rattle.std.proofs.Common.{◌≡◌, ◌<◌, ◌≤◌, ◌+◌, ◌==◌, ℕ, zero, suc, Bool, true, false, not, cond, List, [], ◌∷◌, ◌++◌, length, Option, Some, None, option_map, sym, refl, ap, ◌∙◌, subst, inl, inr, append_assoc, append-nil, arith}
 use Rattle.std.proofs.lemmas.Bool.Decides.{nat_tests}
 use Rattle.std.proofs.lemmas.List.{map-append}
-use Rattle.std.proofs.lemmas.Grind.{flat_map-append}
 use Rattle.serna_kinds.specs.declared.expressions.Axis.{Axis}
 use Rattle.serna_kinds.specs.declared.expressions.Axis.TheVariants as axis
 use Rattle.serna_kinds.specs.declared.expressions.NodeTest.{NodeTest}
-use Rattle.xpath_syntax.specs.declared.expr.ArithOp.TheVariants as arith_op
-use Rattle.xpath_syntax.specs.declared.expr.Expr.{Expr}
-use Rattle.xpath_syntax.specs.declared.expr.Expr.TheVariants as expr
-use Rattle.xpath_syntax.specs.declared.expr.PathStart.TheVariants as start
-use Rattle.xpath_syntax.specs.declared.expr.Function.{Function}
-use Rattle.xpath_syntax.specs.declared.symbol.Operator.{Operator}
-use Rattle.xpath_syntax.specs.declared.symbol.Operator.TheVariants as operator
-use Rattle.xpath_syntax.specs.declared.symbol.Symbol.{Symbol}
-use Rattle.xpath_syntax.specs.declared.symbol.Symbol.TheVariants as symbol
+use Rattle.xpath_trees.specs.declared.expr.ArithOp.TheVariants as arith_op
+use Rattle.xpath_trees.specs.declared.expr.Expr.{Expr}
+use Rattle.xpath_trees.specs.declared.expr.Expr.TheVariants as expr
+use Rattle.xpath_trees.specs.declared.expr.PathStart.TheVariants as start
+use Rattle.xpath_trees.specs.declared.expr.Function.{Function}
+use Rattle.xpath_trees.specs.declared.expr.Signs.TheVariants as sign
+use Rattle.xpath_tokens.specs.declared.symbol.Operator.{Operator}
+use Rattle.xpath_tokens.specs.declared.symbol.Operator.TheVariants as operator
+use Rattle.xpath_tokens.specs.declared.symbol.Symbol.{Symbol}
+use Rattle.xpath_tokens.specs.declared.symbol.Symbol.TheVariants as symbol
 use Rattle.xpath_syntax.specs.declared.state.Level.{Level}
 use Rattle.xpath_syntax.specs.declared.state.Level.TheVariants as level
 use Rattle.xpath_syntax.specs.declared.state.Path.{Path}
@@ -26,11 +27,11 @@ use Rattle.xpath_syntax.specs.declared.state.Pending.TheVariants as pending
 use Rattle.xpath_syntax.specs.declared.state.Place.{Place}
 use Rattle.xpath_syntax.specs.declared.state.Place.TheVariants as place
 use Rattle.xpath_syntax.specs.declared.state.State.{State}
-use Rattle.xpath_syntax.specs.Trees.{step_of, self_node, parent_node, any_descendant, level_of, rank, compares_in, ariths_in, filtered}
+use Rattle.xpath_syntax.specs.Trees.{step_of, self_node, parent_node, any_descendant, level_of, rank, filtered, once_more}
 use Rattle.xpath_syntax.specs.Grammar.{Part, part, further, signs, stepped, bracketed, trees, slash, arguments, IsPrimary, IsExprIn, IsExpr}
 use Rattle.xpath_syntax.specs.Machine.{at, here, from_root, with_step, operand_tree, whole, path_behind, is_level, longer, begun, closed, with_operator, after_step, after_axis, after_sign, after_first, after_argument, end_call, end_group, end_predicate, next_argument, begin_predicate, after_root, after_operand, after_in, beginning, after, finish_in, finished_in}
 use Rattle.xpath_syntax.proofs.Outcomes.{outcome, Fits}
-use Rattle.xpath_syntax.proofs.Soundness.{tier, lift, tier_of, rank-tier, same_level, all-push, compares_of, ariths_of, operands_of, further-push}
+use Rattle.xpath_syntax.proofs.Soundness.{tier, lift, tier_of, rank-tier, same_level, all-push, others_of, further-push}
 use Rattle.xpath_syntax.proofs.States.{wide, wants_here, wants_root, wants_descendants, wants_behind, wants_behind_filter, Wants, IsOperand, step_path, filter_part, ended, Front, AtPlace, HasIn, Has, PutTogether, ends}
 
 -- a state is reached by one more token, and brackets may still stand as deep as this number
@@ -160,24 +161,24 @@ looser level.Multiplicative e = omega arith
 looser level.Union e = cc
 
 -- the first minus sign of several
-first_sign : (d : ℕ) (s : List Pending) (before : List Symbol) → Front (suc d) s before → Fits 7 s → Moved d (Some (at place.Operand (pending.Minus false ∷ s))) (before ++ minus ∷ [])
+first_sign : (d : ℕ) (s : List Pending) (before : List Symbol) → Front (suc d) s before → Fits 7 s → Moved d (Some (at place.Operand (pending.Minus sign.Once ∷ s))) (before ++ minus ∷ [])
 first_sign d s before front fits =
-    wanted d (suc d) (same_depth d) (pending.Minus false ∷ s) (before ++ minus ∷ []) (record { start = before; count = 0; rest = front; fits = fits; double_is = refl; tokens = refl })
+    wanted d (suc d) (same_depth d) (pending.Minus sign.Once ∷ s) (before ++ minus ∷ []) (record { start = before; count = 0; rest = front; fits = fits; signs_are = refl; tokens = refl })
 
 sign_moves : (d : ℕ) (s : List Pending) (before : List Symbol) → Front (suc d) s before → Moved d (after_sign s) (before ++ minus ∷ [])
 sign_moves d [] before front = first_sign d [] before front tt
-sign_moves d (pending.Chain c ∷ s) before front = go (is_level c.level level.Union) refl
+sign_moves d (pending.Chain c ∷ s) before front = go (is_level (level_of c.last) level.Union) refl
   where
-    go : (b : Bool) → is_level c.level level.Union ≡ b → Moved d (cond b None (Some (at place.Operand (pending.Minus false ∷ (pending.Chain c ∷ s))))) (before ++ minus ∷ [])
+    go : (b : Bool) → is_level (level_of c.last) level.Union ≡ b → Moved d (cond b None (Some (at place.Operand (pending.Minus sign.Once ∷ (pending.Chain c ∷ s))))) (before ++ minus ∷ [])
     go true e = tt
-    go false e = first_sign d (pending.Chain c ∷ s) before front (looser c.level e)
-sign_moves d (pending.Minus double ∷ s) before front =
-    wanted d (suc d) (same_depth d) (pending.Minus (not double) ∷ s) (before ++ minus ∷ []) (record {
+    go false e = first_sign d (pending.Chain c ∷ s) before front (looser (level_of c.last) e)
+sign_moves d (pending.Minus so_far ∷ s) before front =
+    wanted d (suc d) (same_depth d) (pending.Minus (once_more so_far) ∷ s) (before ++ minus ∷ []) (record {
       start = front.start;
       count = suc front.count;
       rest = front.rest;
       fits = front.fits;
-      double_is = ap not front.double_is;
+      signs_are = ap once_more front.signs_are;
       tokens = ap (λ l. l ++ minus ∷ []) front.tokens ∙ append_assoc front.start (signs (suc front.count)) (minus ∷ []) ∙ ap (λ l. front.start ++ l) (signs-push (suc front.count));
     })
 sign_moves d (pending.Group ∷ s) before front = first_sign d (pending.Group ∷ s) before front tt
@@ -226,7 +227,7 @@ no_trees (p ∷ ps) e = cc
 end_call_moves : (d : ℕ) (s : List Pending) (before : List Symbol) → Front (suc d) s before → (g : Function) (rest : List Pending) → s ≡ pending.Call g [] ∷ rest → Moved d (end_call s) (before ++ symbol.Close ∷ [])
 end_call_moves d [] before front g rest e = tt
 end_call_moves d (pending.Chain c ∷ s) before front g rest e = tt
-end_call_moves d (pending.Minus double ∷ s) before front g rest e = tt
+end_call_moves d (pending.Minus so_far ∷ s) before front g rest e = tt
 end_call_moves d (pending.Group ∷ s) before front g rest e = tt
 end_call_moves d (pending.Predicate o ∷ s) before front g rest e = tt
 end_call_moves d (pending.Call f args ∷ s) before (start, given, front, all, same, tokens) g rest e =
@@ -266,58 +267,54 @@ module _ (d : ℕ) (op : Operator) where
         start = w.before;
         first = w.whole;
         others = [];
-        last = op;
         rest = w.front;
         fits = fits;
         first_is = lift (IsExprIn (suc d)) w.tier_is (tier_of (level_of op)) (omega arith) w.whole w.is;
         others_are = tt;
-        last_is = refl;
-        operands = ap (λ x. x ∷ []) w.tree_is;
-        compares = refl;
-        ariths = refl;
+        first_tree = w.tree_is;
+        other_trees = refl;
         tokens = ap (λ l. l ++ symbol.Operator op ∷ []) w.tokens_are ∙ append_assoc w.before w.whole.tokens (symbol.Operator op ∷ []);
       })
 
-  goes_on : (e : Expr) (c : Chain) (s : List Pending) (tokens : List Symbol) → (w : PutTogether (suc d) (rank (level_of op)) (e, pending.Chain c ∷ s) tokens) → c.level ≡ level_of op
+  goes_on : (e : Expr) (c : Chain) (s : List Pending) (tokens : List Symbol) → (w : PutTogether (suc d) (rank (level_of op)) (e, pending.Chain c ∷ s) tokens) → level_of c.last ≡ level_of op
       → Moved d (Some (at place.Operand (pending.Chain (longer c e op) ∷ s))) (tokens ++ symbol.Operator op ∷ [])
   goes_on e c s tokens w same =
       let f = w.front in
-      let x : Operator × Part = (f.last, w.whole) in
+      let x : Operator × Part = (c.last, w.whole) in
       let I = IsExprIn (suc d) in
       let all = f.others ++ x ∷ [] in
       let mark = symbol.Operator op ∷ [] in
+      let others_are : AllByRecursion (λ (y : Operator × Part). (level_of y.0 ≡ level_of c.last) × tier I (tier_of (level_of c.last)) y.1) all =
+      all-push (λ (y : Operator × Part). (level_of y.0 ≡ level_of c.last) × tier I (tier_of (level_of c.last)) y.1) f.others x f.others_are (refl, lift I w.tier_is (tier_of (level_of c.last)) w.fits w.whole w.is) in
       wanted d (suc d) (same_depth d) (pending.Chain (longer c e op) ∷ s) (tokens ++ mark) (record {
         start = f.start;
         first = f.first;
         others = all;
-        last = op;
         rest = f.rest;
-        fits = f.fits;
-        first_is = f.first_is;
-        others_are = all-push (λ (y : Operator × Part). (level_of y.0 ≡ c.level) × tier I (tier_of c.level) y.1) f.others x f.others_are (f.last_is, lift I w.tier_is (tier_of c.level) w.fits w.whole w.is);
-        last_is = sym same;
-        operands = ap (λ l. l ++ e ∷ []) f.operands ∙ ap (λ t. (f.first.tree ∷ operands_of f.others) ++ t ∷ []) w.tree_is ∙ ap (λ l. f.first.tree ∷ l) (sym (map-append (λ (y : Operator × Part). y.1.tree) f.others (x ∷ [])));
-        compares = ap (λ l. l ++ compares_in op) (f.compares ∙ ap (λ l. compares_of f.others ++ l) (sym (append-nil (compares_in f.last))) ∙ sym (flat_map-append (λ (y : Operator × Part). compares_in y.0) f.others (x ∷ [])));
-        ariths = ap (λ l. l ++ ariths_in op) (f.ariths ∙ ap (λ l. ariths_of f.others ++ l) (sym (append-nil (ariths_in f.last))) ∙ sym (flat_map-append (λ (y : Operator × Part). ariths_in y.0) f.others (x ∷ [])));
+        fits = subst (λ (l : Level). Fits (rank l) s) same f.fits;
+        first_is = subst (λ (l : Level). tier I (tier_of l) f.first) same f.first_is;
+        others_are = subst (λ (l : Level). AllByRecursion (λ (y : Operator × Part). (level_of y.0 ≡ l) × tier I (tier_of l) y.1) all) same others_are;
+        first_tree = f.first_tree;
+        other_trees = ap (λ l. l ++ (c.last, e) ∷ []) f.other_trees ∙ ap (λ t. others_of f.others ++ (c.last, t) ∷ []) w.tree_is ∙ sym (map-append (λ (y : Operator × Part). (y.0, y.1.tree)) f.others (x ∷ []));
         tokens = ap (λ l. l ++ mark) (w.tokens_are ∙ ap (λ l. l ++ w.whole.tokens) f.tokens)
-            ∙ append_assoc (f.start ++ (f.first.tokens ++ (further f.others ++ symbol.Operator f.last ∷ []))) w.whole.tokens mark
-            ∙ append_assoc f.start (f.first.tokens ++ (further f.others ++ symbol.Operator f.last ∷ [])) (w.whole.tokens ++ mark)
-            ∙ ap (λ l. f.start ++ l) (append_assoc f.first.tokens (further f.others ++ symbol.Operator f.last ∷ []) (w.whole.tokens ++ mark)
-            ∙ ap (λ l. f.first.tokens ++ l) (append_assoc (further f.others) (symbol.Operator f.last ∷ []) (w.whole.tokens ++ mark)
-            ∙ sym (append_assoc (further f.others) (symbol.Operator f.last ∷ w.whole.tokens) mark)
-            ∙ ap (λ l. l ++ mark) (sym (further-push f.others f.last w.whole))));
+            ∙ append_assoc (f.start ++ (f.first.tokens ++ (further f.others ++ symbol.Operator c.last ∷ []))) w.whole.tokens mark
+            ∙ append_assoc f.start (f.first.tokens ++ (further f.others ++ symbol.Operator c.last ∷ [])) (w.whole.tokens ++ mark)
+            ∙ ap (λ l. f.start ++ l) (append_assoc f.first.tokens (further f.others ++ symbol.Operator c.last ∷ []) (w.whole.tokens ++ mark)
+            ∙ ap (λ l. f.first.tokens ++ l) (append_assoc (further f.others) (symbol.Operator c.last ∷ []) (w.whole.tokens ++ mark)
+            ∙ sym (append_assoc (further f.others) (symbol.Operator c.last ∷ w.whole.tokens) mark)
+            ∙ ap (λ l. l ++ mark) (sym (further-push f.others c.last w.whole))));
       })
 
   operator_moves : (e : Expr) (s : List Pending) (tokens : List Symbol) → PutTogether (suc d) (rank (level_of op)) (e, s) tokens
       → Moved d (Some (at place.Operand (with_operator op e s))) (tokens ++ symbol.Operator op ∷ [])
   operator_moves e [] tokens w = begins_chain e [] tokens w tt
-  operator_moves e (pending.Chain c ∷ s) tokens w = go (is_level c.level (level_of op)) refl
+  operator_moves e (pending.Chain c ∷ s) tokens w = go (is_level (level_of c.last) (level_of op)) refl
     where
-      go : (b : Bool) → is_level c.level (level_of op) ≡ b
+      go : (b : Bool) → is_level (level_of c.last) (level_of op) ≡ b
           → Moved d (Some (at place.Operand (cond b (pending.Chain (longer c e op) ∷ s) (pending.Chain (begun e op) ∷ (pending.Chain c ∷ s))))) (tokens ++ symbol.Operator op ∷ [])
-      go true same = goes_on e c s tokens w (same_level c.level (level_of op) same)
-      go false other = begins_chain e (pending.Chain c ∷ s) tokens w (lower (rank c.level) (rank (level_of op)) w.closed_so other)
-  operator_moves e (pending.Minus double ∷ s) tokens w = begins_chain e (pending.Minus double ∷ s) tokens w (not_seven (level_of op) w.closed_so)
+      go true same = goes_on e c s tokens w (same_level (level_of c.last) (level_of op) same)
+      go false other = begins_chain e (pending.Chain c ∷ s) tokens w (lower (rank (level_of c.last)) (rank (level_of op)) w.closed_so other)
+  operator_moves e (pending.Minus so_far ∷ s) tokens w = begins_chain e (pending.Minus so_far ∷ s) tokens w (not_seven (level_of op) w.closed_so)
   operator_moves e (pending.Group ∷ s) tokens w = begins_chain e (pending.Group ∷ s) tokens w tt
   operator_moves e (pending.Call g args ∷ s) tokens w = begins_chain e (pending.Call g args ∷ s) tokens w tt
   operator_moves e (pending.Predicate o ∷ s) tokens w = begins_chain e (pending.Predicate o ∷ s) tokens w tt
@@ -348,7 +345,7 @@ bracketed-push (q ∷ qs) p =
 group_moves : (d : ℕ) (e : Expr) (s : List Pending) (tokens : List Symbol) → PutTogether (suc d) 0 (e, s) tokens → Moved d (end_group e s) (tokens ++ symbol.Close ∷ [])
 group_moves d e [] tokens w = tt
 group_moves d e (pending.Chain c ∷ s) tokens w = tt
-group_moves d e (pending.Minus double ∷ s) tokens w = tt
+group_moves d e (pending.Minus so_far ∷ s) tokens w = tt
 group_moves d e (pending.Predicate o ∷ s) tokens w = tt
 group_moves d e (pending.Group ∷ s) tokens w =
     let (start, front, same) = w.front in
@@ -382,7 +379,7 @@ group_moves d e (pending.Call g args ∷ s) tokens w =
 comma_moves : (d : ℕ) (e : Expr) (s : List Pending) (tokens : List Symbol) → PutTogether (suc d) 0 (e, s) tokens → Moved d (next_argument e s) (tokens ++ symbol.Comma ∷ [])
 comma_moves d e [] tokens w = tt
 comma_moves d e (pending.Chain c ∷ s) tokens w = tt
-comma_moves d e (pending.Minus double ∷ s) tokens w = tt
+comma_moves d e (pending.Minus so_far ∷ s) tokens w = tt
 comma_moves d e (pending.Group ∷ s) tokens w = tt
 comma_moves d e (pending.Predicate o ∷ s) tokens w = tt
 comma_moves d e (pending.Call g args ∷ s) tokens w =
@@ -416,7 +413,7 @@ in_brackets start inside inner =
 predicate_moves : (d : ℕ) (e : Expr) (s : List Pending) (tokens : List Symbol) → PutTogether (suc d) 0 (e, s) tokens → Moved d (end_predicate e s) (tokens ++ symbol.CloseBracket ∷ [])
 predicate_moves d e [] tokens w = tt
 predicate_moves d e (pending.Chain c ∷ s) tokens w = tt
-predicate_moves d e (pending.Minus double ∷ s) tokens w = tt
+predicate_moves d e (pending.Minus so_far ∷ s) tokens w = tt
 predicate_moves d e (pending.Group ∷ s) tokens w = tt
 predicate_moves d e (pending.Call g args ∷ s) tokens w = tt
 predicate_moves d e (pending.Predicate operand.Root ∷ s) tokens w = tt

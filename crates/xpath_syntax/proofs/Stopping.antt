@@ -1,7 +1,7 @@
 -- Where a reader stops, for any machine that reads the trees of a grammar.
 use Rattle.std.proofs.Common.{◌≡◌, ◌<◌, ◌≤◌, ◌+◌, ℕ, zero, suc, List, [], ◌∷◌, ◌++◌, length, take, drop, Option, Some, None, sym, refl, ap, ◌∙◌, subst, arith, inl, inr}
 use Rattle.std.proofs.lemmas.List.{take_all, take-append-drop, drop-drop}
-use Rattle.xpath_syntax.specs.declared.symbol.Symbol.{Symbol}
+use Rattle.xpath_tokens.specs.declared.symbol.Symbol.{Symbol}
 use Rattle.xpath_syntax.specs.Advance.{Refuses, Advances}
 use Rattle.xpath_syntax.specs.Stops.{next_depth, IsShallowFrom, IsShallow, HasTreeBy, BeginsBy, CanGoOnBy, IsStopBy}
 

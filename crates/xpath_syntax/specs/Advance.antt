@@ -1,6 +1,6 @@
 -- One step of a reader with the brackets counted. No public clause speaks of it.
 use Rattle.std.specs.Prelude.{◌≡◌, ◌≤◌, ◌<◌, ◌⊎◌, ℕ, Option, Some, None}
-use Rattle.xpath_syntax.specs.declared.symbol.Symbol.{Symbol}
+use Rattle.xpath_tokens.specs.declared.symbol.Symbol.{Symbol}
 use Rattle.xpath_syntax.specs.declared.parse.Reader.{Reader}
 use Rattle.xpath_syntax.specs.declared.pattern_parse.PatternReader.{PatternReader}
 use Rattle.xpath_syntax.specs.Machine.{after}

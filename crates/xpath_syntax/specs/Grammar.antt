@@ -1,23 +1,23 @@
 -- The grammar of expressions (XPath 1.0, sections 2 and 3), without the namespace axis, `processing-instruction( )` and
 -- `div`. The numbers are those of the recommendation's productions. A production says which tokens stand for which tree.
 use Rattle.std.specs.Prelude.{◌≡◌, ℕ, zero, suc, ◌⊎◌, Bool, true, false, List, [], ◌∷◌, ◌++◌, map}
-use Rattle.std.specs.List.{AllByRecursion, flat_map}
+use Rattle.std.specs.List.{AllByRecursion}
 use Rattle.serna_kinds.specs.declared.expressions.Axis.{Axis}
 use Rattle.serna_kinds.specs.declared.expressions.Axis.TheVariants as axis
 use Rattle.serna_kinds.specs.declared.expressions.NodeTest.{NodeTest}
-use Rattle.xpath_syntax.specs.declared.expr.ArithOp.TheVariants as arith
-use Rattle.xpath_syntax.specs.declared.expr.Expr.{Expr}
-use Rattle.xpath_syntax.specs.declared.expr.Expr.TheVariants as expr
-use Rattle.xpath_syntax.specs.declared.expr.PathStart.TheVariants as start
-use Rattle.xpath_syntax.specs.declared.expr.Step.{Step}
-use Rattle.xpath_syntax.specs.declared.expr.Function.{Function}
-use Rattle.xpath_syntax.specs.declared.symbol.Operator.{Operator}
-use Rattle.xpath_syntax.specs.declared.symbol.Operator.TheVariants as operator
-use Rattle.xpath_syntax.specs.declared.symbol.Symbol.{Symbol}
-use Rattle.xpath_syntax.specs.declared.symbol.Symbol.TheVariants as symbol
+use Rattle.xpath_trees.specs.declared.expr.ArithOp.TheVariants as arith
+use Rattle.xpath_trees.specs.declared.expr.Expr.{Expr}
+use Rattle.xpath_trees.specs.declared.expr.Expr.TheVariants as expr
+use Rattle.xpath_trees.specs.declared.expr.PathStart.TheVariants as start
+use Rattle.xpath_trees.specs.declared.expr.Step.{Step}
+use Rattle.xpath_trees.specs.declared.expr.Function.{Function}
+use Rattle.xpath_tokens.specs.declared.symbol.Operator.{Operator}
+use Rattle.xpath_tokens.specs.declared.symbol.Operator.TheVariants as operator
+use Rattle.xpath_tokens.specs.declared.symbol.Symbol.{Symbol}
+use Rattle.xpath_tokens.specs.declared.symbol.Symbol.TheVariants as symbol
 use Rattle.xpath_syntax.specs.declared.state.Level.{Level}
 use Rattle.xpath_syntax.specs.declared.state.Level.TheVariants as level
-use Rattle.xpath_syntax.specs.Trees.{step_of, self_node, parent_node, any_descendant, level_of, compares_in, ariths_in, chain_tree, filtered, signed}
+use Rattle.xpath_syntax.specs.Trees.{step_of, self_node, parent_node, any_descendant, level_of, chain_tree, filtered, signed}
 
 -- tokens, and the tree that they stand for
 pub record Part : Type 0 where
@@ -38,7 +38,7 @@ further (x ∷ xs) = symbol.Operator x.0 ∷ (x.1.tokens ++ further xs)
 abbrev pub chain : Level → Part → List (Operator × Part) → Part
 chain level first [] = first
 chain level first (x ∷ xs) = part (first.tokens ++ further (x ∷ xs))
-    (chain_tree level (first.tree ∷ map (λ y. y.1.tree) (x ∷ xs)) (flat_map (λ y. compares_in y.0) (x ∷ xs)) (flat_map (λ y. ariths_in y.0) (x ∷ xs)))
+    (chain_tree level first.tree (map (λ y. (y.0, y.1.tree)) (x ∷ xs)))
 
 -- one operand or more, with an operator of the level between each and the next; operators of one level group to the left
 pub record IsChain (level : Level) (IsOperand : Part → Type 0) (whole : Part) : Type 0 where

@@ -1,15 +1,8 @@
-pub mod Tokens
-pub mod Spelling
 pub mod Trees
 pub mod Grammar
 pub mod Patterns
-pub mod PatternMachine
-pub mod PatternFaults
-pub mod Symbols
 pub mod Stops
-pub mod Faults
-pub mod Reading
 pub mod Machine
+pub mod PatternMachine
 pub mod Advance
-pub mod Writing
-pub mod Writable
+pub mod Reading

@@ -1,17 +1,18 @@
 -- The reader of an expression as a machine over tokens, from left to right. No public clause speaks of it.
-use Rattle.std.specs.Prelude.{ℕ, Bool, true, false, not, ◌==◌, nat_lt, if◌then◌else◌, List, [], ◌∷◌, ◌++◌, Option, Some, None}
+use Rattle.std.specs.Prelude.{ℕ, Bool, true, false, ◌==◌, nat_lt, if◌then◌else◌, List, [], ◌∷◌, ◌++◌, Option, Some, None}
 use Rattle.std.specs.Option.{option_map}
 use Rattle.serna_kinds.specs.declared.expressions.Axis.{Axis}
 use Rattle.serna_kinds.specs.declared.expressions.Axis.TheVariants as axis
-use Rattle.xpath_syntax.specs.declared.expr.ArithOp.TheVariants as arith
-use Rattle.xpath_syntax.specs.declared.expr.PathStart.TheVariants as start
-use Rattle.xpath_syntax.specs.declared.expr.Expr.{Expr}
-use Rattle.xpath_syntax.specs.declared.expr.Expr.TheVariants as expr
-use Rattle.xpath_syntax.specs.declared.expr.Step.{Step}
-use Rattle.xpath_syntax.specs.declared.symbol.Operator.{Operator}
-use Rattle.xpath_syntax.specs.declared.symbol.Operator.TheVariants as operator
-use Rattle.xpath_syntax.specs.declared.symbol.Symbol.{Symbol}
-use Rattle.xpath_syntax.specs.declared.symbol.Symbol.TheVariants as symbol
+use Rattle.xpath_trees.specs.declared.expr.ArithOp.TheVariants as arith
+use Rattle.xpath_trees.specs.declared.expr.PathStart.TheVariants as start
+use Rattle.xpath_trees.specs.declared.expr.Expr.{Expr}
+use Rattle.xpath_trees.specs.declared.expr.Expr.TheVariants as expr
+use Rattle.xpath_trees.specs.declared.expr.Signs.TheVariants as sign
+use Rattle.xpath_trees.specs.declared.expr.Step.{Step}
+use Rattle.xpath_tokens.specs.declared.symbol.Operator.{Operator}
+use Rattle.xpath_tokens.specs.declared.symbol.Operator.TheVariants as operator
+use Rattle.xpath_tokens.specs.declared.symbol.Symbol.{Symbol}
+use Rattle.xpath_tokens.specs.declared.symbol.Symbol.TheVariants as symbol
 use Rattle.xpath_syntax.specs.declared.state.Level.{Level}
 use Rattle.xpath_syntax.specs.declared.state.Level.TheVariants as level
 use Rattle.xpath_syntax.specs.declared.state.Path.{Path}
@@ -23,7 +24,7 @@ use Rattle.xpath_syntax.specs.declared.state.Pending.TheVariants as pending
 use Rattle.xpath_syntax.specs.declared.state.Place.{Place}
 use Rattle.xpath_syntax.specs.declared.state.Place.TheVariants as place
 use Rattle.xpath_syntax.specs.declared.state.State.{State}
-use Rattle.xpath_syntax.specs.Trees.{step_of, self_node, parent_node, any_descendant, level_of, rank, compares_in, ariths_in, chain_tree, filtered}
+use Rattle.xpath_syntax.specs.Trees.{step_of, self_node, parent_node, any_descendant, level_of, rank, chain_tree, filtered, once_more}
 
 abbrev pub at : Place → List Pending → State
 at p s = record { place = p; stack = s }
@@ -70,21 +71,21 @@ is_level a b = rank a == rank b
 
 -- a chain with its last operand
 abbrev pub chained : Chain → Expr → Expr
-chained c e = chain_tree c.level (c.operands ++ e ∷ []) c.compares c.ariths
+chained c e = chain_tree (level_of c.last) c.first (c.others ++ (c.last, e) ∷ [])
 
 -- a chain with one more operand and the operator behind it
 abbrev pub longer : Chain → Expr → Operator → Chain
-longer c e op = record { level = c.level; operands = c.operands ++ e ∷ []; compares = c.compares ++ compares_in op; ariths = c.ariths ++ ariths_in op }
+longer c e op = record { first = c.first; others = c.others ++ (c.last, e) ∷ []; last = op }
 
 -- a chain that begins with this operand and operator
 abbrev pub begun : Expr → Operator → Chain
-begun e op = record { level = level_of op; operands = e ∷ []; compares = compares_in op; ariths = ariths_in op }
+begun e op = record { first = e; others = []; last = op }
 
 -- an operand and what waits for it, when all that binds tighter than this is put together
 abbrev pub closed : ℕ → Expr → List Pending → Expr × List Pending
 closed least e [] = (e, [])
-closed least e (pending.Chain c ∷ s) = if nat_lt least (rank c.level) then closed least (chained c e) s else (e, pending.Chain c ∷ s)
-closed least e (pending.Minus double ∷ s) = if nat_lt least 7 then closed least (expr.Negate double e) s else (e, pending.Minus double ∷ s)
+closed least e (pending.Chain c ∷ s) = if nat_lt least (rank (level_of c.last)) then closed least (chained c e) s else (e, pending.Chain c ∷ s)
+closed least e (pending.Minus signs ∷ s) = if nat_lt least 7 then closed least (expr.Negate signs e) s else (e, pending.Minus signs ∷ s)
 closed least e (pending.Group ∷ s) = (e, pending.Group ∷ s)
 closed least e (pending.Call f args ∷ s) = (e, pending.Call f args ∷ s)
 closed least e (pending.Predicate o ∷ s) = (e, pending.Predicate o ∷ s)
@@ -93,8 +94,8 @@ closed least e (pending.Predicate o ∷ s) = (e, pending.Predicate o ∷ s)
 abbrev pub with_operator : Operator → Expr → List Pending → List Pending
 with_operator op e [] = pending.Chain (begun e op) ∷ []
 with_operator op e (pending.Chain c ∷ s) =
-    if is_level c.level (level_of op) then pending.Chain (longer c e op) ∷ s else pending.Chain (begun e op) ∷ (pending.Chain c ∷ s)
-with_operator op e (pending.Minus double ∷ s) = pending.Chain (begun e op) ∷ (pending.Minus double ∷ s)
+    if is_level (level_of c.last) (level_of op) then pending.Chain (longer c e op) ∷ s else pending.Chain (begun e op) ∷ (pending.Chain c ∷ s)
+with_operator op e (pending.Minus signs ∷ s) = pending.Chain (begun e op) ∷ (pending.Minus signs ∷ s)
 with_operator op e (pending.Group ∷ s) = pending.Chain (begun e op) ∷ (pending.Group ∷ s)
 with_operator op e (pending.Call f args ∷ s) = pending.Chain (begun e op) ∷ (pending.Call f args ∷ s)
 with_operator op e (pending.Predicate o ∷ s) = pending.Chain (begun e op) ∷ (pending.Predicate o ∷ s)
@@ -128,12 +129,12 @@ is_minus _ = false
 
 -- A minus sign where an operand is wanted. Behind `|` none may stand.
 abbrev pub after_sign : List Pending → Option State
-after_sign [] = Some (at place.Operand (pending.Minus false ∷ []))
-after_sign (pending.Chain c ∷ s) = if is_level c.level level.Union then None else Some (at place.Operand (pending.Minus false ∷ (pending.Chain c ∷ s)))
-after_sign (pending.Minus double ∷ s) = Some (at place.Operand (pending.Minus (not double) ∷ s))
-after_sign (pending.Group ∷ s) = Some (at place.Operand (pending.Minus false ∷ (pending.Group ∷ s)))
-after_sign (pending.Call f args ∷ s) = Some (at place.Operand (pending.Minus false ∷ (pending.Call f args ∷ s)))
-after_sign (pending.Predicate o ∷ s) = Some (at place.Operand (pending.Minus false ∷ (pending.Predicate o ∷ s)))
+after_sign [] = Some (at place.Operand (pending.Minus sign.Once ∷ []))
+after_sign (pending.Chain c ∷ s) = if is_level (level_of c.last) level.Union then None else Some (at place.Operand (pending.Minus sign.Once ∷ (pending.Chain c ∷ s)))
+after_sign (pending.Minus signs ∷ s) = Some (at place.Operand (pending.Minus (once_more signs) ∷ s))
+after_sign (pending.Group ∷ s) = Some (at place.Operand (pending.Minus sign.Once ∷ (pending.Group ∷ s)))
+after_sign (pending.Call f args ∷ s) = Some (at place.Operand (pending.Minus sign.Once ∷ (pending.Call f args ∷ s)))
+after_sign (pending.Predicate o ∷ s) = Some (at place.Operand (pending.Minus sign.Once ∷ (pending.Predicate o ∷ s)))
 
 -- where a token leads that an operand begins with
 abbrev pub after_first : List Pending → Symbol → Option State

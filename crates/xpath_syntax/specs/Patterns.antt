@@ -4,16 +4,16 @@ use Rattle.std.specs.Prelude.{◌≡◌, ◌⊎◌, Bool, true, false, List, [],
 use Rattle.std.specs.List.{AllByRecursion}
 use Rattle.serna_kinds.specs.declared.expressions.Axis.{Axis}
 use Rattle.serna_kinds.specs.declared.expressions.Axis.TheVariants as axis
-use Rattle.xpath_syntax.specs.declared.expr.Expr.{Expr}
-use Rattle.xpath_syntax.specs.declared.expr.Expr.TheVariants as expr
-use Rattle.xpath_syntax.specs.declared.expr.PathStart.{PathStart}
-use Rattle.xpath_syntax.specs.declared.expr.PathStart.TheVariants as start
-use Rattle.xpath_syntax.specs.declared.expr.Step.{Step}
-use Rattle.xpath_syntax.specs.declared.pattern.Alternative.{Alternative}
-use Rattle.xpath_syntax.specs.declared.pattern.Pattern.{Pattern}
-use Rattle.xpath_syntax.specs.declared.symbol.Operator.TheVariants as operator
-use Rattle.xpath_syntax.specs.declared.symbol.Symbol.{Symbol}
-use Rattle.xpath_syntax.specs.declared.symbol.Symbol.TheVariants as symbol
+use Rattle.xpath_trees.specs.declared.expr.Expr.{Expr}
+use Rattle.xpath_trees.specs.declared.expr.Expr.TheVariants as expr
+use Rattle.xpath_trees.specs.declared.expr.PathStart.{PathStart}
+use Rattle.xpath_trees.specs.declared.expr.PathStart.TheVariants as start
+use Rattle.xpath_trees.specs.declared.expr.Step.{Step}
+use Rattle.xpath_trees.specs.declared.pattern.Alternative.{Alternative}
+use Rattle.xpath_trees.specs.declared.pattern.Pattern.{Pattern}
+use Rattle.xpath_tokens.specs.declared.symbol.Operator.TheVariants as operator
+use Rattle.xpath_tokens.specs.declared.symbol.Symbol.{Symbol}
+use Rattle.xpath_tokens.specs.declared.symbol.Symbol.TheVariants as symbol
 use Rattle.xpath_syntax.specs.Grammar.{Part, Stepped, IsFullStep, slash, behind_slash, widened, steps_behind, IsExpr}
 
 -- Steps

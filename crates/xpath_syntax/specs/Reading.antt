@@ -1,20 +1,20 @@
 -- What it is to read an expression or a pattern, and its first fault.
 use Rattle.std.specs.Prelude.{◌≡◌, ◌⊎◌, ℕ, List, Option, Some, None, Result, Ok, Err}
 use Rattle.serna_kinds.specs.Names.{NameParts, Space, Grows}
-use Rattle.xpath_syntax.specs.declared.expr.Expr.{Expr}
-use Rattle.xpath_syntax.specs.declared.pattern.Pattern.{Pattern}
-use Rattle.xpath_syntax.specs.declared.symbol.Symbol.{Symbol}
-use Rattle.xpath_syntax.specs.declared.tokens.Token.{Token}
-use Rattle.xpath_syntax.specs.declared.faults.ExprRule.{ExprRule}
+use Rattle.xpath_trees.specs.declared.expr.Expr.{Expr}
+use Rattle.xpath_trees.specs.declared.pattern.Pattern.{Pattern}
+use Rattle.xpath_tokens.specs.declared.symbol.Symbol.{Symbol}
+use Rattle.xpath_tokens.specs.declared.tokens.Token.{Token}
+use Rattle.xpath_tokens.specs.declared.faults.ExprRule.{ExprRule}
 use Rattle.xpath_syntax.specs.declared.reader.ExprFault.{ExprFault}
 use Rattle.xpath_syntax.specs.declared.reader.ExprFault.TheVariants as fault
-use Rattle.xpath_syntax.specs.Tokens.{tokens_of}
-use Rattle.xpath_syntax.specs.Symbols.{symbols_at}
+use Rattle.xpath_tokens.specs.Tokens.{tokens_of}
+use Rattle.xpath_tokens.specs.Symbols.{symbols_at}
 use Rattle.xpath_syntax.specs.Grammar.{IsExpr}
 use Rattle.xpath_syntax.specs.Patterns.{IsPattern}
 use Rattle.xpath_syntax.specs.Stops.{HasTreeBy, IsStopBy}
-use Rattle.xpath_syntax.specs.Faults.{fault_among, fault_before}
-use Rattle.xpath_syntax.specs.PatternFaults.{pattern_fault_among, pattern_fault_before}
+use Rattle.xpath_tokens.specs.Faults.{fault_among, fault_before}
+use Rattle.xpath_tokens.specs.PatternFaults.{pattern_fault_among, pattern_fault_before}
 
 -- By a grammar, and by the first of the faults of tokens besides 20
 

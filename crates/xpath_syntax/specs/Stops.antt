@@ -1,9 +1,9 @@
 -- How far a list of tokens can be read, as an expression or as a pattern.
 use Rattle.std.specs.Prelude.{◌≤◌, ◌<◌, ℕ, suc, pred, List, [], ◌∷◌, ◌++◌, take, length}
-use Rattle.xpath_syntax.specs.declared.expr.Expr.{Expr}
-use Rattle.xpath_syntax.specs.declared.pattern.Pattern.{Pattern}
-use Rattle.xpath_syntax.specs.declared.symbol.Symbol.{Symbol}
-use Rattle.xpath_syntax.specs.declared.symbol.Symbol.TheVariants as symbol
+use Rattle.xpath_trees.specs.declared.expr.Expr.{Expr}
+use Rattle.xpath_trees.specs.declared.pattern.Pattern.{Pattern}
+use Rattle.xpath_tokens.specs.declared.symbol.Symbol.{Symbol}
+use Rattle.xpath_tokens.specs.declared.symbol.Symbol.TheVariants as symbol
 use Rattle.xpath_syntax.specs.declared.parse.Parsed.{Parsed}
 use Rattle.xpath_syntax.specs.declared.parse.Parsed.TheVariants as parsed
 use Rattle.xpath_syntax.specs.declared.pattern_parse.ParsedPattern.{ParsedPattern}

@@ -1,18 +1,21 @@
 -- The trees of expressions, from their parts.
-use Rattle.std.specs.Prelude.{ℕ, zero, suc, Bool, false, not, List, [], ◌∷◌}
+use Rattle.std.specs.Prelude.{ℕ, zero, suc, List, [], ◌∷◌, map}
+use Rattle.std.specs.List.{flat_map}
 use Rattle.serna_kinds.specs.declared.expressions.Axis.{Axis}
 use Rattle.serna_kinds.specs.declared.expressions.Axis.TheVariants as axis
 use Rattle.serna_kinds.specs.declared.expressions.CompareOp.{CompareOp}
 use Rattle.serna_kinds.specs.declared.expressions.CompareOp.TheVariants as compare
 use Rattle.serna_kinds.specs.declared.expressions.NodeTest.{NodeTest}
 use Rattle.serna_kinds.specs.declared.expressions.NodeTest.TheVariants as test
-use Rattle.xpath_syntax.specs.declared.expr.ArithOp.{ArithOp}
-use Rattle.xpath_syntax.specs.declared.expr.ArithOp.TheVariants as arith
-use Rattle.xpath_syntax.specs.declared.expr.Expr.{Expr}
-use Rattle.xpath_syntax.specs.declared.expr.Expr.TheVariants as expr
-use Rattle.xpath_syntax.specs.declared.expr.Step.{Step, roll-Step}
-use Rattle.xpath_syntax.specs.declared.symbol.Operator.{Operator}
-use Rattle.xpath_syntax.specs.declared.symbol.Operator.TheVariants as operator
+use Rattle.xpath_trees.specs.declared.expr.ArithOp.{ArithOp}
+use Rattle.xpath_trees.specs.declared.expr.ArithOp.TheVariants as arith
+use Rattle.xpath_trees.specs.declared.expr.Expr.{Expr}
+use Rattle.xpath_trees.specs.declared.expr.Expr.TheVariants as expr
+use Rattle.xpath_trees.specs.declared.expr.Signs.{Signs}
+use Rattle.xpath_trees.specs.declared.expr.Signs.TheVariants as sign
+use Rattle.xpath_trees.specs.declared.expr.Step.{Step, roll-Step}
+use Rattle.xpath_tokens.specs.declared.symbol.Operator.{Operator}
+use Rattle.xpath_tokens.specs.declared.symbol.Operator.TheVariants as operator
 use Rattle.xpath_syntax.specs.declared.state.Level.{Level}
 use Rattle.xpath_syntax.specs.declared.state.Level.TheVariants as level
 
@@ -69,25 +72,28 @@ rank level.Additive = 5
 rank level.Multiplicative = 6
 rank level.Union = 8
 
--- the comparison that an operator is
-abbrev pub compares_in : Operator → List CompareOp
-compares_in (operator.Compare op) = op ∷ []
-compares_in _ = []
+-- an operand behind an operator that is a comparison
+abbrev pub compared : Operator → Expr → List (CompareOp × Expr)
+compared (operator.Compare op) e = (op, e) ∷ []
+compared _ e = []
 
--- the operator on numbers that an operator is
-abbrev pub ariths_in : Operator → List ArithOp
-ariths_in (operator.Arith op) = op ∷ []
-ariths_in _ = []
+-- an operand behind an operator on numbers
+abbrev pub computed : Operator → Expr → List (ArithOp × Expr)
+computed (operator.Arith op) e = (op, e) ∷ []
+computed _ e = []
 
--- the tree of a chain of a level
-abbrev pub chain_tree : Level → List Expr → List CompareOp → List ArithOp → Expr
-chain_tree level.Or operands compares ariths = expr.Or operands
-chain_tree level.And operands compares ariths = expr.And operands
-chain_tree level.Equality operands compares ariths = expr.Compare operands compares
-chain_tree level.Relational operands compares ariths = expr.Compare operands compares
-chain_tree level.Additive operands compares ariths = expr.Arith operands ariths
-chain_tree level.Multiplicative operands compares ariths = expr.Arith operands ariths
-chain_tree level.Union operands compares ariths = expr.Union operands
+abbrev pub operands : Expr → List (Operator × Expr) → List Expr
+operands first others = first ∷ map (λ other. other.1) others
+
+-- the tree of a chain of a level: its first operand and the others, each with the operator before it
+abbrev pub chain_tree : Level → Expr → List (Operator × Expr) → Expr
+chain_tree level.Or first others = expr.Or (operands first others)
+chain_tree level.And first others = expr.And (operands first others)
+chain_tree level.Equality first others = expr.Compare first (flat_map (λ other. compared other.0 other.1) others)
+chain_tree level.Relational first others = expr.Compare first (flat_map (λ other. compared other.0 other.1) others)
+chain_tree level.Additive first others = expr.Arith first (flat_map (λ other. computed other.0 other.1) others)
+chain_tree level.Multiplicative first others = expr.Arith first (flat_map (λ other. computed other.0 other.1) others)
+chain_tree level.Union first others = expr.Union (operands first others)
 
 -- Predicates and signs
 
@@ -96,12 +102,17 @@ abbrev pub filtered : Expr → List Expr → Expr
 filtered e [] = e
 filtered e (p ∷ ps) = expr.Filter e (p ∷ ps)
 
--- whether so many minus signs and one more are as two: where their number is even
-abbrev pub twice : ℕ → Bool
-twice zero = false
-twice (suc n) = not (twice n)
+-- one minus sign more
+abbrev pub once_more : Signs → Signs
+once_more sign.Once = sign.Twice
+once_more sign.Twice = sign.Once
+
+-- what so many minus signs and one more are as
+abbrev pub signs_past : ℕ → Signs
+signs_past zero = sign.Once
+signs_past (suc n) = once_more (signs_past n)
 
 -- [27] an expression behind so many minus signs
 abbrev pub signed : ℕ → Expr → Expr
 signed zero e = e
-signed (suc n) e = expr.Negate (twice n) e
+signed (suc n) e = expr.Negate (signs_past n) e

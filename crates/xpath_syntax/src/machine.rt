@@ -1,16 +1,17 @@
 //! The parts of an expression as they are put together.
 
 ghost use Rattle.std.specs.Prelude.{◌≡◌, ◌++◌, IfOk, OnOk};
-ghost use Rattle.xpath_syntax.specs.Trees.{step_of, any_descendant, compare_level, arith_level, level_of, rank, compares_in, ariths_in, chain_tree, filtered};
+ghost use Rattle.std.specs.List.{flat_map};
+ghost use Rattle.xpath_syntax.specs.Trees.{step_of, any_descendant, compare_level, arith_level, level_of, rank, compared, computed, operands, chain_tree, filtered, once_more};
 ghost use Rattle.xpath_syntax.specs.Machine.{with_step, path_tree, operand_tree, whole, path_behind, chained, longer, begun, here, from_root};
 
 use crate::NoMemory;
-use crate::expr::{ArithOp, Expr, PathStart, Step};
 use crate::state::{Chain, Level, Operand, Path};
-use crate::symbol::Operator;
 use serna_kinds::{Axis, CompareOp, NodeTest};
 use sqlite_items::{Boxed, Items};
 use std::alloc::Global;
+use xpath_tokens::{Operator, Stack};
+use xpath_trees::{ArithOp, Expr, PathStart, Signs, Step};
 
 fn compare_level(op: CompareOp) -> Level
     ensures { result ≡ compare_level op }
@@ -170,53 +171,121 @@ pub fn path_behind(alloc: Global, operand: Operand) -> Result<Option<Path>, NoMe
 
 // Chains
 
+/// The operands of a chain, in order.
+fn operands(
+    alloc: Global,
+    first: Expr,
+    mut others: Stack<(Operator, Expr)>,
+) -> Result<Items<Expr>, NoMemory>
+    ensures { IfOk result (λ all. all ≡ operands first others) }
+{
+    let mut all = Items::new(alloc);
+    all.push(first)?;
+    while let Some((_, operand)) = others.pop() {
+        all.push(operand)?;
+    }
+    Ok(all)
+}
+
+fn push_compared(
+    op: Operator,
+    operand: Expr,
+    pairs: &mut Items<(CompareOp, Expr)>,
+) -> Result<(), NoMemory>
+    ensures { OnOk result (pairs.new ≡ pairs.old ++ compared op operand) }
+{
+    match op {
+        Operator::Compare(compare) => pairs.push((compare, operand)),
+        _ => Ok(()),
+    }
+}
+
+fn compared(
+    alloc: Global,
+    mut others: Stack<(Operator, Expr)>,
+) -> Result<Items<(CompareOp, Expr)>, NoMemory>
+    ensures { IfOk result (λ pairs. pairs ≡ flat_map (λ other. compared other.0 other.1) others) }
+{
+    let mut pairs = Items::new(alloc);
+    while let Some((op, operand)) = others.pop() {
+        push_compared(op, operand, &mut pairs)?;
+    }
+    Ok(pairs)
+}
+
+fn push_computed(
+    op: Operator,
+    operand: Expr,
+    pairs: &mut Items<(ArithOp, Expr)>,
+) -> Result<(), NoMemory>
+    ensures { OnOk result (pairs.new ≡ pairs.old ++ computed op operand) }
+{
+    match op {
+        Operator::Arith(arith) => pairs.push((arith, operand)),
+        _ => Ok(()),
+    }
+}
+
+fn computed(
+    alloc: Global,
+    mut others: Stack<(Operator, Expr)>,
+) -> Result<Items<(ArithOp, Expr)>, NoMemory>
+    ensures { IfOk result (λ pairs. pairs ≡ flat_map (λ other. computed other.0 other.1) others) }
+{
+    let mut pairs = Items::new(alloc);
+    while let Some((op, operand)) = others.pop() {
+        push_computed(op, operand, &mut pairs)?;
+    }
+    Ok(pairs)
+}
+
+fn compare_tree(
+    alloc: Global,
+    first: Expr,
+    others: Stack<(Operator, Expr)>,
+) -> Result<Expr, NoMemory>
+    ensures { IfOk result (λ e. e ≡ chain_tree Level.Equality first others) }
+{
+    let first = Boxed::new(alloc, first)?;
+    Ok(Expr::Compare(first, compared(alloc, others)?))
+}
+
+fn arith_tree(alloc: Global, first: Expr, others: Stack<(Operator, Expr)>) -> Result<Expr, NoMemory>
+    ensures { IfOk result (λ e. e ≡ chain_tree Level.Additive first others) }
+{
+    let first = Boxed::new(alloc, first)?;
+    Ok(Expr::Arith(first, computed(alloc, others)?))
+}
+
 fn chain_tree(
+    alloc: Global,
     level: Level,
-    operands: Items<Expr>,
-    compares: Items<CompareOp>,
-    ariths: Items<ArithOp>,
-) -> Expr
-    ensures { result ≡ chain_tree level operands compares ariths }
+    first: Expr,
+    others: Stack<(Operator, Expr)>,
+) -> Result<Expr, NoMemory>
+    ensures { IfOk result (λ e. e ≡ chain_tree level first others) }
 {
     match level {
-        Level::Or => Expr::Or(operands),
-        Level::And => Expr::And(operands),
-        Level::Equality | Level::Relational => Expr::Compare(operands, compares),
-        Level::Additive | Level::Multiplicative => Expr::Arith(operands, ariths),
-        Level::Union => Expr::Union(operands),
+        Level::Or => Ok(Expr::Or(operands(alloc, first, others)?)),
+        Level::And => Ok(Expr::And(operands(alloc, first, others)?)),
+        Level::Equality | Level::Relational => compare_tree(alloc, first, others),
+        Level::Additive | Level::Multiplicative => arith_tree(alloc, first, others),
+        Level::Union => Ok(Expr::Union(operands(alloc, first, others)?)),
     }
 }
 
 /// A chain with its last operand.
-pub fn chained(chain: Chain, tree: Expr) -> Result<Expr, NoMemory>
+pub fn chained(alloc: Global, chain: Chain, tree: Expr) -> Result<Expr, NoMemory>
     ensures { IfOk result (λ e. e ≡ chained chain tree) }
 {
     let Chain {
-        level,
-        mut operands,
-        compares,
-        ariths,
+        first,
+        mut others,
+        last,
     } = chain;
-    operands.push(tree)?;
-    Ok(chain_tree(level, operands, compares, ariths))
-}
-
-fn push_compare(op: Operator, compares: &mut Items<CompareOp>) -> Result<(), NoMemory>
-    ensures { OnOk result (compares.new ≡ compares.old ++ compares_in op) }
-{
-    match op {
-        Operator::Compare(compare) => compares.push(compare),
-        _ => Ok(()),
-    }
-}
-
-fn push_arith(op: Operator, ariths: &mut Items<ArithOp>) -> Result<(), NoMemory>
-    ensures { OnOk result (ariths.new ≡ ariths.old ++ ariths_in op) }
-{
-    match op {
-        Operator::Arith(arith) => ariths.push(arith),
-        _ => Ok(()),
-    }
+    others.push((last, tree))?;
+    let others = Stack::from_items(alloc, others)?;
+    chain_tree(alloc, level_of(last), first, others)
 }
 
 /// A chain with one more operand and the operator behind it.
@@ -224,36 +293,35 @@ pub fn longer(chain: Chain, tree: Expr, op: Operator) -> Result<Chain, NoMemory>
     ensures { IfOk result (λ c. c ≡ longer chain tree op) }
 {
     let Chain {
-        level,
-        mut operands,
-        mut compares,
-        mut ariths,
+        first,
+        mut others,
+        last,
     } = chain;
-    operands.push(tree)?;
-    push_compare(op, &mut compares)?;
-    push_arith(op, &mut ariths)?;
+    others.push((last, tree))?;
     Ok(Chain {
-        level,
-        operands,
-        compares,
-        ariths,
+        first,
+        others,
+        last: op,
     })
 }
 
-/// A chain that begins with this operand and operator.
-pub fn begun(alloc: Global, tree: Expr, op: Operator) -> Result<Chain, NoMemory>
-    ensures { IfOk result (λ c. c ≡ begun tree op) }
+/// A chain that begins with this operand and operator. Takes no memory.
+pub fn begun(alloc: Global, tree: Expr, op: Operator) -> Chain
+    ensures { result ≡ begun tree op }
 {
-    let mut operands = Items::new(alloc);
-    let mut compares = Items::new(alloc);
-    let mut ariths = Items::new(alloc);
-    operands.push(tree)?;
-    push_compare(op, &mut compares)?;
-    push_arith(op, &mut ariths)?;
-    Ok(Chain {
-        level: level_of(op),
-        operands,
-        compares,
-        ariths,
-    })
+    Chain {
+        first: tree,
+        others: Items::new(alloc),
+        last: op,
+    }
+}
+
+/// One minus sign more.
+pub fn once_more(signs: Signs) -> Signs
+    ensures { result ≡ once_more signs }
+{
+    match signs {
+        Signs::Once => Signs::Twice,
+        Signs::Twice => Signs::Once,
+    }
 }

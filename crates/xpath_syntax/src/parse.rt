@@ -5,11 +5,11 @@ ghost use Rattle.xpath_syntax.specs.Stops.{next_depth, IsParsed};
 ghost use Rattle.xpath_syntax.specs.Advance.{IsAdvanced};
 
 use crate::NoMemory;
-use crate::expr::Expr;
-use crate::state::{Stack, State};
+use crate::state::State;
 use crate::step::{beginning, finish, step};
-use crate::symbol::Symbol;
 use std::alloc::Global;
+use xpath_tokens::{Stack, Symbol};
+use xpath_trees::Expr;
 
 /// The most `(` and `[` that may be open at once.
 pub const MOST_OPEN: usize = 64;

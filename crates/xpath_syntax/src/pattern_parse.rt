@@ -6,12 +6,11 @@ ghost use Rattle.xpath_syntax.specs.Stops.{IsParsedPattern};
 
 use crate::NoMemory;
 use crate::parse::{MOST_OPEN, next_depth};
-use crate::pattern::Pattern;
 use crate::pattern_state::PatternState;
 use crate::pattern_step::{finish_pattern, pattern_beginning, pattern_step};
-use crate::state::Stack;
-use crate::symbol::Symbol;
 use std::alloc::Global;
+use xpath_tokens::{Stack, Symbol};
+use xpath_trees::Pattern;
 
 /// What a list of tokens is.
 #[derive(Drop)]

@@ -1,24 +1,22 @@
 //! Reads a pattern from its text.
 
-ghost use Rattle.std.specs.Prelude.{◌≡◌, ◌≤◌, ℕ, List, length, IfOk, IfErr, MatchResult};
+ghost use Rattle.std.specs.Prelude.{◌≡◌, ◌≤◌, ℕ, List, length, IfOk, IfErr, OnOk, MatchResult};
 ghost use Rattle.std.specs.List.{AllByRecursion};
 ghost use Rattle.serna_kinds.specs.Names.{NameParts, Grows};
-ghost use Rattle.xpath_syntax.specs.declared.pattern.Pattern.{Pattern};
-ghost use Rattle.xpath_syntax.specs.declared.faults.ExprRule.{ExprRule};
-ghost use Rattle.xpath_syntax.specs.Tokens.{IsCut};
-ghost use Rattle.xpath_syntax.specs.PatternFaults.{pattern_fault_before};
+ghost use Rattle.xpath_trees.specs.declared.pattern.Pattern.{Pattern};
+ghost use Rattle.xpath_tokens.specs.declared.faults.ExprRule.{ExprRule};
+ghost use Rattle.xpath_tokens.specs.Tokens.{IsCut, tokens_of};
+ghost use Rattle.xpath_tokens.specs.Named.{HasNames, names_of, with_names};
+ghost use Rattle.xpath_tokens.specs.PatternFaults.{pattern_fault_before};
 ghost use Rattle.xpath_syntax.specs.Reading.{IsPatternReading, IsFirstPatternFault, IsPatternRead};
 
 use crate::NoMemory;
-use crate::faults::ExprRule;
-use crate::pattern::Pattern;
-use crate::pattern_faults::pattern_fault_among;
 use crate::pattern_parse::{ParsedPattern, parse_pattern};
 use crate::reader::{ExprFault, place_of};
-use crate::symbols::symbols_at;
-use crate::tokens::{Token, tokens_of};
 use serna_kinds::{NameTable, Spaces};
 use std::alloc::Global;
+use xpath_tokens::{ExprRule, Token, pattern_fault_among, symbols_at, tokens_of};
+use xpath_trees::Pattern;
 
 /// The first fault where no pattern can go on with the token of this number.
 fn pattern_fault_before(
@@ -47,7 +45,9 @@ fn read_pattern_tokens(
 ) -> Result<Pattern, ExprFault>
     requires { AllByRecursion (IsCut text.now) tokens.now }
     ensures read { IsPatternRead spaces.now names.new text.now tokens.now result }
-    ensures names { Grows names.old names.new }
+    ensures named { OnOk result ((later : List NameParts) → Grows names.new later → HasNames spaces.now later text.now tokens.now) }
+    ensures names { OnOk result (names.new ≡ with_names names.old (names_of spaces.now text.now tokens.now)) }
+    ensures grows { Grows names.old names.new }
 {
     let symbols = symbols_at(alloc, text, tokens, spaces, names)?;
     match parse_pattern(alloc, symbols)? {
@@ -73,6 +73,8 @@ pub fn read_pattern(
 ) -> Result<Pattern, ExprFault>
     // The pattern is the text's, with the numbers that names have in the new table and in every one that grows from it.
     ensures tree { IfOk result (λ pattern. (later : List NameParts) → Grows names.new later → IsPatternReading spaces.now later text.now pattern) }
+    // So each such table has the names of the text.
+    ensures named { OnOk result ((later : List NameParts) → Grows names.new later → HasNames spaces.now later text.now (tokens_of text.now)) }
     // A text that is a pattern without fault is read, unless memory runs out, and it is no other pattern.
     ensures only { (pattern : Pattern) → IsPatternReading spaces.now names.new text.now pattern → MatchResult result (λ p. p ≡ pattern) (λ fault. fault ≡ ExprFault.NoMemory) }
     // A fault is the first one of the text.
@@ -80,7 +82,10 @@ pub fn read_pattern(
     // A text with a fault is refused, for that fault and no other.
     ensures refused { (rule : ExprRule) (place : ℕ) → IsFirstPatternFault spaces.now names.new text.now rule place
         → MatchResult result (λ _. ⊥) (λ fault. (r : ExprRule) (p : ℕ) → fault ≡ ExprFault.Refused r p → (r ≡ rule) × (p ≡ place)) }
-    ensures names { Grows names.old names.new }
+    // The table has got the names of the text's tokens, in their order, and no others.
+    ensures names { OnOk result (names.new ≡ with_names names.old (names_of spaces.now text.now (tokens_of text.now))) }
+    // It grows at most, also where the text has a fault or memory runs out.
+    ensures grows { Grows names.old names.new }
 {
     let tokens = tokens_of(alloc, text)?;
     read_pattern_tokens(alloc, text, tokens.as_slice(), spaces, names)

@@ -1,10 +1,9 @@
 //! The reader of a pattern between two tokens.
 
-use crate::expr::Expr;
-use crate::pattern::Alternative;
 use crate::state::State;
 use serna_kinds::{Axis, NodeTest};
 use sqlite_items::Items;
+use xpath_trees::{Alternative, Expr};
 
 /// The step that was read last, with its predicates so far.
 #[derive(Drop)]

@@ -6,16 +6,15 @@ ghost use Rattle.xpath_syntax.specs.Machine.{finish, after};
 ghost use Rattle.xpath_syntax.specs.PatternMachine.{from_context, root_alone, with_step, with_descendants, last_step, whole, with_predicate, is_bar, is_close_bracket, on_axis, begin_step, after_axis, after_beginning, after_last, closes, after_predicate, alternative_at, next, after_path, after_pattern, pattern_beginning, finish_pattern};
 
 use crate::NoMemory;
-use crate::expr::{Expr, Step};
 use crate::machine::step_of;
-use crate::pattern::{Alternative, Pattern};
 use crate::pattern_state::{LastStep, PatternPlace, PatternState};
-use crate::state::{Operand, Pending, Place, Stack, State};
+use crate::state::{Operand, Pending, Place, State};
 use crate::step::{beginning, end_predicate, is_close, is_colons, is_open, put_together, step};
-use crate::symbol::{Operator, Symbol};
 use serna_kinds::{Axis, NodeTest};
 use sqlite_items::Items;
 use std::alloc::Global;
+use xpath_tokens::{Operator, Stack, Symbol};
+use xpath_trees::{Alternative, Expr, Pattern, Step};
 
 fn is_bar(symbol: &Symbol) -> bool
     ensures { result ≡ is_bar symbol.now }

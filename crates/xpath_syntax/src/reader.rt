@@ -3,21 +3,19 @@
 ghost use Rattle.std.specs.Prelude.{◌≡◌, ◌≤◌, ℕ, List, length, IfOk, IfErr, OnOk, MatchResult};
 ghost use Rattle.std.specs.List.{AllByRecursion};
 ghost use Rattle.serna_kinds.specs.Names.{NameParts, Grows};
-ghost use Rattle.xpath_syntax.specs.declared.expr.Expr.{Expr};
-ghost use Rattle.xpath_syntax.specs.declared.faults.ExprRule.{ExprRule};
-ghost use Rattle.xpath_syntax.specs.Tokens.{IsCut, tokens_of};
-ghost use Rattle.xpath_syntax.specs.Faults.{place_of, fault_before};
+ghost use Rattle.xpath_trees.specs.declared.expr.Expr.{Expr};
+ghost use Rattle.xpath_tokens.specs.declared.faults.ExprRule.{ExprRule};
+ghost use Rattle.xpath_tokens.specs.Tokens.{IsCut, tokens_of};
+ghost use Rattle.xpath_tokens.specs.Faults.{place_of, fault_before};
 ghost use Rattle.xpath_syntax.specs.Reading.{IsReading, IsFirstFault, IsRead};
-ghost use Rattle.xpath_syntax.specs.Writable.{HasNames};
+ghost use Rattle.xpath_tokens.specs.Named.{HasNames, names_of, with_names};
 
 use crate::NoMemory;
-use crate::expr::Expr;
-use crate::faults::{ExprRule, fault_among};
 use crate::parse::{Parsed, parse};
-use crate::symbols::symbols_at;
-use crate::tokens::{Token, tokens_of};
 use serna_kinds::{NameTable, Spaces};
 use std::alloc::Global;
+use xpath_tokens::{ExprRule, Token, fault_among, symbols_at, tokens_of};
+use xpath_trees::Expr;
 
 /// Why a text was not read: the rule that it breaks first and the place of the byte where it does, or want of memory.
 #[derive(Debug, Drop)]
@@ -69,7 +67,8 @@ fn read_tokens(
     requires { AllByRecursion (IsCut text.now) tokens.now }
     ensures read { IsRead spaces.now names.new text.now tokens.now result }
     ensures named { OnOk result ((later : List NameParts) → Grows names.new later → HasNames spaces.now later text.now tokens.now) }
-    ensures names { Grows names.old names.new }
+    ensures names { OnOk result (names.new ≡ with_names names.old (names_of spaces.now text.now tokens.now)) }
+    ensures grows { Grows names.old names.new }
 {
     let symbols = symbols_at(alloc, text, tokens, spaces, names)?;
     match parse(alloc, symbols)? {
@@ -103,7 +102,10 @@ pub fn read_expr(
     // A text with a fault is refused, for that fault and no other.
     ensures refused { (rule : ExprRule) (place : ℕ) → IsFirstFault spaces.now names.new text.now rule place
         → MatchResult result (λ _. ⊥) (λ fault. (r : ExprRule) (p : ℕ) → fault ≡ ExprFault.Refused r p → (r ≡ rule) × (p ≡ place)) }
-    ensures names { Grows names.old names.new }
+    // The table has got the names of the text's tokens, in their order, and no others.
+    ensures names { OnOk result (names.new ≡ with_names names.old (names_of spaces.now text.now (tokens_of text.now))) }
+    // It grows at most, also where the text has a fault or memory runs out.
+    ensures grows { Grows names.old names.new }
 {
     let tokens = tokens_of(alloc, text)?;
     read_tokens(alloc, text, tokens.as_slice(), spaces, names)

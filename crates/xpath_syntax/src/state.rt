@@ -1,13 +1,9 @@
 //! The reader of an expression between two tokens.
 
-ghost use Rattle.std.specs.Prelude.{◌≡◌, [], ◌∷◌, IfOk, OnOk, OnErr, MatchOption};
-
-use crate::NoMemory;
-use crate::expr::{ArithOp, Expr, Function, PathStart, Step};
-use serna_kinds::{Axis, CompareOp, NodeTest};
+use serna_kinds::{Axis, NodeTest};
 use sqlite_items::Items;
-use std::alloc::Global;
-use std::marker::Model;
+use xpath_tokens::{Operator, Stack};
+use xpath_trees::{Expr, Function, PathStart, Signs, Step};
 
 /// The chains of operators, the loosest first (XPath 1.0, section 3.4, 3.5 and 3.3).
 #[derive(Clone, Copy, Debug)]
@@ -41,21 +37,20 @@ pub enum Operand {
     Primary(Expr, Items<Expr>),
 }
 
-/// A chain that waits for its next operand: those so far, and as many operators.
+/// A chain that waits for its next operand: the first one, further ones, each with the operator before it, and the operator
+/// behind the last of them. All operators are of one level.
 #[derive(Drop)]
 pub struct Chain {
-    pub level: Level,
-    pub operands: Items<Expr>,
-    pub compares: Items<CompareOp>,
-    pub ariths: Items<ArithOp>,
+    pub first: Expr,
+    pub others: Items<(Operator, Expr)>,
+    pub last: Operator,
 }
 
 /// What waits for the operand that comes next.
 #[derive(Drop)]
 pub enum Pending {
     Chain(Chain),
-    /// A minus sign, twice or once.
-    Minus(bool),
+    Minus(Signs),
     /// `(`
     Group,
     /// A call with its arguments so far.
@@ -84,49 +79,6 @@ pub enum Place {
     NodeClose(Path, Axis, NodeTest),
     /// Nothing: an operand was read.
     Behind(Operand),
-}
-
-/// A stack, which contracts see as the list of its items, the top first.
-#[derive(Drop)]
-pub struct Stack<T> {
-    items: Vec<T>,
-}
-
-impl<T> Model for Stack<T> {
-    ghost use Rattle.std.specs.Prelude.{List, reverse};
-    ghost use Rattle.std.specs.Coded.{coded_list};
-
-    ghost Value = { List T };
-
-    ghost coded = { coded_list T.code };
-
-    ghost view = { λ s. reverse s.items.items };
-}
-
-impl<T: Drop> Stack<T> {
-    /// An empty stack. Takes no memory.
-    pub fn new(alloc: Global) -> Stack<T>
-        ensures { result ≡ [] }
-    {
-        Stack {
-            items: Vec::new(alloc),
-        }
-    }
-
-    /// Puts an item on the top.
-    pub fn push(&mut self, item: T) -> Result<(), NoMemory>
-        ensures { OnOk result (self.new ≡ item ∷ self.old) }
-    {
-        self.items.push(item)?;
-        Ok(())
-    }
-
-    /// Takes the top, where there is one.
-    pub fn pop(&mut self) -> Option<T>
-        ensures { MatchOption result ((self.old ≡ []) × (self.new ≡ [])) (λ top. self.old ≡ top ∷ self.new) }
-    {
-        self.items.pop()
-    }
 }
 
 /// Where the reader stands, and what waits, the innermost first.

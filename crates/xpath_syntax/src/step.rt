@@ -4,16 +4,16 @@ ghost use Rattle.std.specs.Prelude.{◌≡◌, IfOk, OnOk};
 ghost use Rattle.xpath_syntax.specs.Machine.{is_level, closed, with_operator, is_minus, is_open, is_close, is_colons, after_step, after_axis, after_sign, after_first, end_call, after_argument, end_group, next_argument, with_predicate, end_predicate, begin_predicate, operand_tree, after_root, after_operand, after_in, after, beginning, finish_in, finish};
 
 use crate::NoMemory;
-use crate::expr::{ArithOp, Expr, Function};
 use crate::machine::{
-    begun, chained, from_root, here, level_of, longer, operand_tree, path_behind, rank, step_of,
-    whole, with_descendants, with_step,
+    begun, chained, from_root, here, level_of, longer, once_more, operand_tree, path_behind, rank,
+    step_of, whole, with_descendants, with_step,
 };
-use crate::state::{Level, Operand, Path, Pending, Place, Stack, State};
-use crate::symbol::{Operator, Symbol};
+use crate::state::{Level, Operand, Path, Pending, Place, State};
 use serna_kinds::{Axis, NodeTest};
 use sqlite_items::{Boxed, Items};
 use std::alloc::Global;
+use xpath_tokens::{Operator, Stack, Symbol};
+use xpath_trees::{ArithOp, Expr, Function, Signs};
 
 /// How tightly minus signs bind.
 const SIGN_RANK: u8 = 7;
@@ -75,18 +75,18 @@ fn closed(
     while let Some(top) = stack.pop() {
         match top {
             Pending::Chain(chain) => {
-                if least < rank(chain.level) {
-                    tree = chained(chain, tree)?;
+                if least < rank(level_of(chain.last)) {
+                    tree = chained(alloc, chain, tree)?;
                 } else {
                     stack.push(Pending::Chain(chain))?;
                     return Ok(tree);
                 }
             }
-            Pending::Minus(double) => {
+            Pending::Minus(signs) => {
                 if least < SIGN_RANK {
-                    tree = Expr::Negate(double, Boxed::new(alloc, tree)?);
+                    tree = Expr::Negate(signs, Boxed::new(alloc, tree)?);
                 } else {
-                    stack.push(Pending::Minus(double))?;
+                    stack.push(Pending::Minus(signs))?;
                     return Ok(tree);
                 }
             }
@@ -110,18 +110,18 @@ fn push_operator(
 {
     match stack.pop() {
         Some(Pending::Chain(chain)) => {
-            if is_level(chain.level, level_of(op)) {
+            if is_level(level_of(chain.last), level_of(op)) {
                 stack.push(Pending::Chain(longer(chain, tree, op)?))
             } else {
                 stack.push(Pending::Chain(chain))?;
-                stack.push(Pending::Chain(begun(alloc, tree, op)?))
+                stack.push(Pending::Chain(begun(alloc, tree, op)))
             }
         }
         Some(other) => {
             stack.push(other)?;
-            stack.push(Pending::Chain(begun(alloc, tree, op)?))
+            stack.push(Pending::Chain(begun(alloc, tree, op)))
         }
-        None => stack.push(Pending::Chain(begun(alloc, tree, op)?)),
+        None => stack.push(Pending::Chain(begun(alloc, tree, op))),
     }
 }
 
@@ -195,18 +195,18 @@ fn after_sign(mut stack: Stack<Pending>) -> Result<Option<State>, NoMemory>
 {
     match stack.pop() {
         Some(Pending::Chain(chain)) => {
-            if is_level(chain.level, Level::Union) {
+            if is_level(level_of(chain.last), Level::Union) {
                 return Ok(None);
             }
             stack.push(Pending::Chain(chain))?;
-            stack.push(Pending::Minus(false))?;
+            stack.push(Pending::Minus(Signs::Once))?;
         }
-        Some(Pending::Minus(double)) => stack.push(Pending::Minus(!double))?,
+        Some(Pending::Minus(signs)) => stack.push(Pending::Minus(once_more(signs)))?,
         Some(other) => {
             stack.push(other)?;
-            stack.push(Pending::Minus(false))?;
+            stack.push(Pending::Minus(Signs::Once))?;
         }
-        None => stack.push(Pending::Minus(false))?,
+        None => stack.push(Pending::Minus(Signs::Once))?,
     }
     Ok(at(Place::Operand, stack))
 }

@@ -1,10 +1,11 @@
-use Rattle.std.proofs.Common.{◌∙◌, List, subst}
-use Rattle.serna_kinds.specs.Names.{NameParts}
-use Rattle.xpath_syntax.specs.PatternFaults.{pattern_fault_among, pattern_fault_before}
+use Rattle.std.proofs.Common.{◌≡◌, ◌∙◌, List, OnOk, subst}
+use Rattle.serna_kinds.specs.Names.{NameParts, Grows}
+use Rattle.xpath_tokens.specs.PatternFaults.{pattern_fault_among, pattern_fault_before}
 use Rattle.xpath_syntax.specs.Patterns.{IsPattern}
 use Rattle.xpath_syntax.specs.Reading.{HasPatternReading, HasPatternFault, IsPatternRead}
-use Rattle.xpath_syntax.specs.Symbols.{symbols_of}
-use Rattle.xpath_syntax.specs.Tokens.{tokens_of}
+use Rattle.xpath_tokens.specs.Symbols.{symbols_of}
+use Rattle.xpath_tokens.specs.Tokens.{tokens_of}
+use Rattle.xpath_tokens.specs.Named.{HasNames, names_of, with_names}
 use Rattle.xpath_syntax.proofs.Answering.{tree_read, only_reading, first_fault, only_fault}
 use Rattle.xpath_syntax.proofs.PatternReads.{one_pattern}
 use Rattle.xpath_syntax.proofs.pattern_reader.read_pattern.Goals as goal
@@ -40,3 +41,11 @@ returns-clause-refused c =
     let text = c.args.text.now in
     only_fault IsPattern one_pattern (pattern_fault_among spaces text (tokens_of text)) (pattern_fault_before spaces text (tokens_of text)) (λ (later : List NameParts). symbols_of spaces later text) names c.read_pattern_tokens.result
     (subst (λ tokens. IsPatternRead spaces names text tokens c.read_pattern_tokens.result) (c.as_slice.ensures ∙ c.in_ok-tokens.ensures.value) c.read_pattern_tokens.ensures.read)
+
+pub returns-clause-names : goal.returns-clause-names
+returns-clause-names c =
+    subst (λ tokens. OnOk c.read_pattern_tokens.result (c.read_pattern_tokens.new.names ≡ with_names c.args.names.now (names_of c.args.spaces.now c.args.text.now tokens))) (c.as_slice.ensures ∙ c.in_ok-tokens.ensures.value) c.read_pattern_tokens.ensures.names
+
+pub returns-clause-named : goal.returns-clause-named
+returns-clause-named c =
+    subst (λ tokens. OnOk c.read_pattern_tokens.result ((later : List NameParts) → Grows c.read_pattern_tokens.new.names later → HasNames c.args.spaces.now later c.args.text.now tokens)) (c.as_slice.ensures ∙ c.in_ok-tokens.ensures.value) c.read_pattern_tokens.ensures.named

@@ -1,10 +1,10 @@
 use Rattle.std.proofs.Common.{List, sym, subst, inl, inr}
 use Rattle.serna_kinds.specs.Names.{NameParts}
-use Rattle.xpath_syntax.specs.declared.symbol.Symbol.{Symbol}
+use Rattle.xpath_tokens.specs.declared.symbol.Symbol.{Symbol}
 use Rattle.xpath_syntax.specs.declared.pattern_parse.ParsedPattern.TheVariants as parsed
 use Rattle.xpath_syntax.specs.Patterns.{IsPattern}
 use Rattle.xpath_syntax.specs.Stops.{HasPattern, IsPatternStop, IsParsedPattern}
-use Rattle.xpath_syntax.specs.Symbols.{symbols_at}
+use Rattle.xpath_tokens.specs.Symbols.{symbols_at}
 use Rattle.xpath_syntax.proofs.Answering.{stop_within, by_table}
 use Rattle.xpath_syntax.proofs.pattern_reader.read_pattern_tokens.Goals as goal
 

@@ -1,11 +1,11 @@
-use Rattle.std.proofs.Common.{◌∙◌, List, OnOk, subst}
+use Rattle.std.proofs.Common.{◌≡◌, ◌∙◌, List, OnOk, subst}
 use Rattle.serna_kinds.specs.Names.{NameParts, Grows}
-use Rattle.xpath_syntax.specs.Faults.{fault_among, fault_before}
+use Rattle.xpath_tokens.specs.Faults.{fault_among, fault_before}
 use Rattle.xpath_syntax.specs.Grammar.{IsExpr}
 use Rattle.xpath_syntax.specs.Reading.{HasReading, HasFault, IsRead}
-use Rattle.xpath_syntax.specs.Symbols.{symbols_of}
-use Rattle.xpath_syntax.specs.Tokens.{tokens_of}
-use Rattle.xpath_syntax.specs.Writable.{HasNames}
+use Rattle.xpath_tokens.specs.Symbols.{symbols_of}
+use Rattle.xpath_tokens.specs.Tokens.{tokens_of}
+use Rattle.xpath_tokens.specs.Named.{HasNames, names_of, with_names}
 use Rattle.xpath_syntax.proofs.Answering.{tree_read, only_reading, first_fault, only_fault}
 use Rattle.xpath_syntax.proofs.Completeness.{one_expr}
 use Rattle.xpath_syntax.proofs.reader.read_expr.Goals as goal
@@ -45,3 +45,7 @@ returns-clause-refused c =
 pub returns-clause-named : goal.returns-clause-named
 returns-clause-named c =
     subst (λ tokens. OnOk c.read_tokens.result ((later : List NameParts) → Grows c.read_tokens.new.names later → HasNames c.args.spaces.now later c.args.text.now tokens)) (c.as_slice.ensures ∙ c.in_ok-tokens.ensures.value) c.read_tokens.ensures.named
+
+pub returns-clause-names : goal.returns-clause-names
+returns-clause-names c =
+    subst (λ tokens. OnOk c.read_tokens.result (c.read_tokens.new.names ≡ with_names c.args.names.now (names_of c.args.spaces.now c.args.text.now tokens))) (c.as_slice.ensures ∙ c.in_ok-tokens.ensures.value) c.read_tokens.ensures.names

@@ -1,10 +1,10 @@
 use Rattle.std.proofs.Common.{List, sym, subst, inl, inr}
 use Rattle.serna_kinds.specs.Names.{NameParts}
-use Rattle.xpath_syntax.specs.declared.symbol.Symbol.{Symbol}
+use Rattle.xpath_tokens.specs.declared.symbol.Symbol.{Symbol}
 use Rattle.xpath_syntax.specs.declared.parse.Parsed.TheVariants as parsed
 use Rattle.xpath_syntax.specs.Grammar.{IsExpr}
 use Rattle.xpath_syntax.specs.Stops.{HasTree, IsStop, IsParsed}
-use Rattle.xpath_syntax.specs.Symbols.{symbols_at}
+use Rattle.xpath_tokens.specs.Symbols.{symbols_at}
 use Rattle.xpath_syntax.proofs.Answering.{stop_within, by_table}
 use Rattle.xpath_syntax.proofs.reader.read_tokens.Goals as goal
 

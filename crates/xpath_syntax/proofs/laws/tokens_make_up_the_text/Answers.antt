@@ -1,5 +1,0 @@
-use Rattle.xpath_syntax.proofs.Spelled.{make_up}
-use Rattle.xpath_syntax.proofs.laws.tokens_make_up_the_text.Goals as goal
-
-pub returns : goal.returns
-returns c = make_up

@@ -1,7 +1,0 @@
-use Rattle.std.proofs.Common.{◌∙◌, sym, arith}
-use Rattle.xpath_syntax.proofs.WordLemmas.{number_read}
-use Rattle.xpath_syntax.proofs.words.number_value.Goals as goal
-
-pub returns-then-digits-le15 : goal.returns-then-digits-le15
-returns-then-digits-le15 c =
-    c.unwrap_or.ensures ∙ number_read c.args.digits.now c.parse.result c.parse.ensures.value.0 (sym c.are_digits.ensures ∙ c.if-are_digits.true) (omega arith)

@@ -1,0 +1,14 @@
+pub mod Shown
+pub mod Writes
+pub mod Lexed
+pub mod SpelledWords
+pub mod Rewritten
+pub mod RewrittenPaths
+pub mod Leaves
+pub mod Readable
+pub mod Readings
+pub mod Clean
+pub mod Faultless
+pub mod Shallow
+pub mod Parting
+pub mod ReadBack

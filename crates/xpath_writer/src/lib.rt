@@ -1,0 +1,9 @@
+//! Expressions of XPath 1.0, written so that they read back as themselves.
+#![tactic(auto)]
+
+mod laws;
+mod write;
+
+pub use laws::writing_reads_back;
+pub use serna_kinds::NoMemory;
+pub use write::write_expr;
