@@ -4,4 +4,5 @@ pub mod Codes
 pub mod Named
 pub mod PlainText
 pub mod Proper
+pub mod Sees
 pub mod Source
