@@ -16,7 +16,8 @@ mod write;
 pub use laws::{
     documents_are_named, documents_are_whole, elements_are_written_in_parts,
     escapes_keep_texts_apart, faultless_lines_are_a_document, lines_say_the_document,
-    reading_writes_back, what_was_read_is_writable, worked_faults, writing_reads_back,
+    numbers_are_of_lines_alone, reading_writes_back, what_was_read_is_writable, worked_faults,
+    writing_reads_back,
 };
 pub use read::read_tree;
 pub use rules::{LineFault, LineRule};
