@@ -1,25 +1,17 @@
--- What items say, one after another.
-use Rattle.std.proofs.Common.{◌≡◌, ℕ, zero, suc, ◌<◌, ◌≤◌, List, [], ◌∷◌, ◌++◌, length, take, get_or, refl, sym, ap, ◌∙◌, arith, append_assoc, length-append}
-use Rattle.std.proofs.lemmas.List.{append-nil}
+-- What items say, one by one.
+use Rattle.std.proofs.Common.{◌≡◌, ℕ, ◌+◌, ◌-◌, ◌<◌, ◌≤◌, List, [], ◌∷◌, length, take, drop, map, get_or, sym, ap, ◌∙◌, arith}
+use Rattle.std.proofs.lemmas.List.{take_rest, drop_more}
+use Rattle.result_origin.specs.Items.{part_of}
 use Rattle.result_origin.specs.declared.items.Item.{Item}
-use Rattle.result_origin.specs.Items.{parts_of, parts_in}
 
-pub parts_in-append : (items more : List Item) → parts_in (items ++ more) ≡ parts_in items ++ parts_in more
-parts_in-append [] more = refl
-parts_in-append (one ∷ items) more =
-    ap (λ parts. parts_of one ++ parts) (parts_in-append items more) ∙ sym (append_assoc (parts_of one) (parts_in items) (parts_in more))
+-- what is left at an item is the item and what is left behind it
+pub left_parts : (items : List Item) (i : ℕ) (one : Item) → i < length items → one ≡ get_or items i one →
+    map part_of (drop i items) ≡ part_of one ∷ map part_of (drop (i + 1) items)
+left_parts items i one within is = ap (map part_of) (drop_more items i one within) ∙ ap (λ (it : Item). part_of it ∷ map part_of (drop (i + 1) items)) (sym is)
 
-pub parts_in-last : (items : List Item) (one : Item) → parts_in (items ++ one ∷ []) ≡ parts_in items ++ parts_of one
-parts_in-last items one = parts_in-append items (one ∷ []) ∙ ap (λ parts. parts_in items ++ parts) (append-nil (parts_of one))
-
-pub parts_in-take : (items : List Item) (i : ℕ) (one : Item) → i < length items → one ≡ get_or items i one → parts_in (take (suc i) items) ≡ parts_in (take i items) ++ parts_of one
-parts_in-take [] i one within is = absurd (omega arith)
-parts_in-take (x ∷ xs) zero one within is = append-nil (parts_of x) ∙ ap parts_of (sym is)
-parts_in-take (x ∷ xs) (suc i) one within is =
-    ap (λ parts. parts_of x ++ parts) (parts_in-take xs i one (omega arith) is) ∙ sym (append_assoc (parts_of x) (parts_in (take i xs)) (parts_of one))
-
--- an item has no more parts than all items
-pub parts_of-le : (items : List Item) (i : ℕ) (one : Item) → i < length items → one ≡ get_or items i one → length (parts_of one) ≤ length (parts_in items)
-parts_of-le [] i one within is = absurd (omega arith)
-parts_of-le (x ∷ xs) zero one within is = omega (arith, ap (λ (it : Item). length (parts_of it)) is, length-append (parts_of x) (parts_in xs))
-parts_of-le (x ∷ xs) (suc i) one within is = omega (arith, parts_of-le xs i one (omega arith) is, length-append (parts_of x) (parts_in xs))
+-- the first item and those behind it
+pub first_part : (items : List Item) (first : Item) → 1 ≤ length items → first ≡ get_or items 0 first →
+    map part_of items ≡ part_of first ∷ map part_of (take (length items - 1) (drop 1 items))
+first_part [] first some is = absurd (omega arith)
+first_part (one ∷ rest) first some is =
+    ap (λ (it : Item). part_of it ∷ map part_of rest) (sym is) ∙ ap (λ (items : List Item). part_of first ∷ map part_of items) (sym (take_rest (one ∷ rest) 1))

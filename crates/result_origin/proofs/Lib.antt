@@ -1,4 +1,3 @@
-pub mod WalkLemmas
 pub mod EndsLemmas
 pub mod StoredLemmas
 pub mod ItemLemmas

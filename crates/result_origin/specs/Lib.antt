@@ -1,9 +1,5 @@
 pub mod Parts
 pub mod Items
-pub mod ItemsFall
-pub mod Flat
-pub mod Open
-pub mod Steps
 pub mod Stored
 pub mod Assembled
 pub mod Pages

@@ -39,3 +39,7 @@ filled fill (Hole hole ∷ parts) = fill hole ++ filled fill parts
 abbrev pub said : List Mark → List (ResultPart ℕ)
 said [] = []
 said (mark ∷ marks) = Says mark ∷ said marks
+
+-- what parts say, a hole saying nothing
+abbrev pub marks_in : {H : Type 0} → List (ResultPart H) → List Mark
+marks_in parts = filled (λ hole. []) parts

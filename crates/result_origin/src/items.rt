@@ -1,63 +1,57 @@
-ghost use Rattle.std.specs.Prelude.{◌≡◌, [], ◌∷◌, ◌++◌, IfOk, OnOk, OnErr};
+ghost use Rattle.std.specs.Prelude.{◌≡◌, [], ◌∷◌, ◌++◌, map, IfOk, OnOk, OnErr};
 ghost use Rattle.result_origin.specs.Parts.{Says, Hole};
 ghost use Rattle.result_origin.specs.Parts as mark;
 
 use crate::Origin;
-use serna_kinds::{Chars, Items, NameId, NoMemory};
+use serna_kinds::{Chars, NameId, NoMemory};
 use std::alloc::Global;
 use std::marker::Model;
 
 /// One step through a result: a text with where its start comes from, an element's beginning with the number of its rule, an
-/// attribute with what its value is made of, the end of the innermost element, or a hole that the result of a number fills.
-#[cycle(items)]
+/// attribute's beginning, its end, what stands between them being its value, the end of the innermost element, or a hole that
+/// the result of a number fills.
 #[derive(Debug, Drop)]
 pub enum Item {
     Run(Chars, Origin),
     Begin(NameId, u32),
-    Attr(NameId, Fragment),
+    Attr(NameId),
+    AttrEnd,
     Finish,
     Hole(u64),
 }
 
 /// A list of items, which is a result or a piece of one. Contracts see it as what it says, part by part.
-#[cycle(items)]
 #[derive(Debug, Drop)]
 pub struct Fragment {
-    items: Items<Item>,
+    items: Vec<Item>,
 }
 
 impl Model for Fragment {
-    ghost use Rattle.std.specs.Prelude.{ℕ, List, length};
+    ghost use Rattle.std.specs.Prelude.{ℕ, List, map};
     ghost use Rattle.result_origin.specs.Parts.{ResultPart};
 
     ghost Value = { List (ResultPart ℕ) };
 
-    ghost use Rattle.result_origin.specs.Items.{parts_in};
+    ghost use Rattle.result_origin.specs.Items.{part_of};
 
-    ghost view = { λ f. parts_in f.items };
-
-    ghost size = { length };
-
-    ghost use Rattle.result_origin.specs.ItemsFall.{most_le-length};
-
-    ghost size_decreases = { λ f h. most_le-length f.items };
+    ghost view = { λ f. map part_of f.items.items };
 }
 
 impl Fragment {
-    ghost use Rattle.result_origin.specs.Items.{parts_of, parts_in};
+    ghost use Rattle.result_origin.specs.Items.{part_of};
 
     /// The fragment that says nothing. Takes no memory.
     pub fn new(alloc: Global) -> Fragment
         ensures { result ≡ [] }
     {
         Fragment {
-            items: Items::new(alloc),
+            items: Vec::new(alloc),
         }
     }
 
     /// Its items, in order.
     pub fn items(&self) -> &[Item]
-        ensures { parts_in result.now ≡ self.now }
+        ensures { map part_of result.now ≡ self.now }
     {
         self.items.as_slice()
     }
@@ -78,12 +72,20 @@ impl Fragment {
         self.push(Item::Begin(name, rule))
     }
 
-    /// Adds an attribute with what its value is made of. After an error the fragment is as before.
-    pub fn push_attr(&mut self, name: NameId, value: Fragment) -> Result<(), NoMemory>
-        ensures ok { OnOk result (self.new ≡ self.old ++ Says (mark.Attr name) ∷ (value ++ Says mark.AttrEnd ∷ [])) }
+    /// Adds the beginning of an attribute: what is added before its end is its value. After an error the fragment is as before.
+    pub fn push_attr(&mut self, name: NameId) -> Result<(), NoMemory>
+        ensures ok { OnOk result (self.new ≡ self.old ++ Says (mark.Attr name) ∷ []) }
         ensures err { OnErr result (self.new ≡ self.old) }
     {
-        self.push(Item::Attr(name, value))
+        self.push(Item::Attr(name))
+    }
+
+    /// Adds the end of the innermost attribute. After an error the fragment is as before.
+    pub fn push_attr_end(&mut self) -> Result<(), NoMemory>
+        ensures ok { OnOk result (self.new ≡ self.old ++ Says mark.AttrEnd ∷ []) }
+        ensures err { OnErr result (self.new ≡ self.old) }
+    {
+        self.push(Item::AttrEnd)
     }
 
     /// Adds the end of the innermost element. After an error the fragment is as before.
@@ -102,45 +104,47 @@ impl Fragment {
         self.push(Item::Hole(id))
     }
 
-    /// Moves the items of another fragment to the end, without a copy.
-    pub fn append(&mut self, other: Fragment) -> Result<(), NoMemory>
-        ensures { OnOk result (self.new ≡ self.old ++ other) }
+    /// Moves the items of another fragment to the end, without a copy. After an error both fragments are as before.
+    pub fn append(&mut self, other: &mut Fragment) -> Result<(), NoMemory>
+        ensures ok { OnOk result (self.new ≡ self.old ++ other.old) }
+        ensures emptied { OnOk result (other.new ≡ []) }
+        ensures err { OnErr result (self.new ≡ self.old) }
+        ensures other_kept { OnErr result (other.new ≡ other.old) }
     {
-        let Fragment { items } = other;
-        self.items.append(items)
+        self.items.append(&mut other.items)
     }
 
-    /// The same fragment, in memory of its own.
-    #[cycle(copying)]
+    /// The same fragment, in memory of its own, but for the texts, which are shared.
     pub fn copy(&self, alloc: Global) -> Result<Fragment, NoMemory>
         ensures { IfOk result (λ same. same ≡ self.now) }
     {
         let mut same = Fragment::new(alloc);
         for item in self.items() {
-            same.push(item.copy(alloc)?)?;
+            same.push(item.copy()?)?;
         }
         Ok(same)
     }
 
     /// Adds an item. After an error the fragment is as before.
-    fn push(&mut self, item: Item) -> Result<(), NoMemory>
-        ensures ok { OnOk result (self.new ≡ self.old ++ parts_of item) }
+    pub fn push(&mut self, item: Item) -> Result<(), NoMemory>
+        ensures ok { OnOk result (self.new ≡ self.old ++ part_of item ∷ []) }
         ensures err { OnErr result (self.new ≡ self.old) }
     {
-        self.items.push(item)
+        self.items.push(item)?;
+        Ok(())
     }
 }
 
 impl Item {
-    /// The same item, in memory of its own.
-    #[cycle(copying)]
-    pub fn copy(&self, alloc: Global) -> Result<Item, NoMemory>
+    /// The same item, which shares its text. Takes no memory; `Err` comes only where 2^63 copies of the text are there.
+    pub fn copy(&self) -> Result<Item, NoMemory>
         ensures { IfOk result (λ same. same ≡ self.now) }
     {
         Ok(match self {
             Item::Run(text, origin) => Item::Run(text.copy()?, *origin),
             Item::Begin(name, rule) => Item::Begin(*name, *rule),
-            Item::Attr(name, value) => Item::Attr(*name, value.copy(alloc)?),
+            Item::Attr(name) => Item::Attr(*name),
+            Item::AttrEnd => Item::AttrEnd,
             Item::Finish => Item::Finish,
             Item::Hole(id) => Item::Hole(*id),
         })

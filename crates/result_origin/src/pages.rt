@@ -26,7 +26,7 @@ pub struct Run {
 }
 
 impl Run {
-    /// The same run, which shares its text. Takes no memory.
+    /// The same run, which shares its text. Takes no memory; `Err` comes only where 2^63 copies of the text are there.
     pub fn copy(&self) -> Result<Run, NoMemory>
         ensures { IfOk result (λ same. same ≡ self.now) }
     {
@@ -98,7 +98,7 @@ impl Part {
         &self.run.text.as_text()[self.start..self.finish]
     }
 
-    /// The same part, which shares its text. Takes no memory.
+    /// The same part, which shares its text, as `Run::copy` does.
     pub fn copy(&self) -> Result<Part, NoMemory>
         ensures { IfOk result (λ same. same ≡ self.now) }
     {

@@ -13,11 +13,11 @@ use std::test::Fail;
 fn outer(alloc: Global) -> Result<Fragment, NoMemory>
     ensures { IfOk result (λ f. holes f ≡ 2 ∷ 2 ∷ 3 ∷ []) }
 {
-    let mut value = Fragment::new(alloc);
-    value.push_hole(2)?;
     let mut outer = Fragment::new(alloc);
     outer.push_begin(NameId(1), 0)?;
-    outer.push_attr(NameId(2), value)?;
+    outer.push_attr(NameId(2))?;
+    outer.push_hole(2)?;
+    outer.push_attr_end()?;
     outer.push_hole(2)?;
     outer.push_hole(3)?;
     outer.push_finish()?;
@@ -40,12 +40,12 @@ fn again(alloc: Global) -> Result<Fragment, NoMemory>
     let mut hole = Fragment::new(alloc);
     hole.push_hole(2)?;
     let mut again = Fragment::new(alloc);
-    again.append(hole)?;
+    again.append(&mut hole)?;
     Ok(again)
 }
 
 fn stored(alloc: Global) -> Result<Fragments, NoMemory>
-    ensures { IfOk result (λ all. Ends (kept all) 201 1) }
+    ensures { IfOk result (λ all. Ends (kept all.stored) 201 1) }
 {
     let mut all = Fragments::new(alloc);
     all.put(1, outer(alloc)?)?;
@@ -55,7 +55,7 @@ fn stored(alloc: Global) -> Result<Fragments, NoMemory>
 }
 
 const ASSEMBLED: &str =
-    "Fragment { items: Items { items: [Begin(NameId(1), 0), Attr(NameId(2), Fragment { items: Items { items: [Run(Chars { text: \"b\" }, Fixed(7))] } }), Run(Chars { text: \"b\" }, Fixed(7)), Run(Chars { text: \"b\" }, Fixed(7)), Finish] } }";
+    "Fragment { items: [Begin(NameId(1), 0), Attr(NameId(2)), Run(Chars { text: \"b\" }, Fixed(7)), AttrEnd, Run(Chars { text: \"b\" }, Fixed(7)), Run(Chars { text: \"b\" }, Fixed(7)), Finish] }";
 
 #[test]
 fn fills_each_hole(rt: HostRuntime) -> Result<(), Fail> {
@@ -70,6 +70,17 @@ fn copies_fragments(rt: HostRuntime) -> Result<(), Fail> {
     let fragment = outer(rt.alloc())?;
     let same = fragment.copy(rt.alloc())?;
     assert!(rt; format!(in rt.alloc(); "{same:?}")? == format!(in rt.alloc(); "{fragment:?}")?);
+    Ok(())
+}
+
+#[test]
+fn keeps_and_takes_results(rt: HostRuntime) -> Result<(), Fail> {
+    let mut all = stored(rt.alloc())?;
+    all.reserve(2)?;
+    all.put(4, inner(rt.alloc())?)?;
+    assert!(rt; all.take(4).is_some());
+    assert!(rt; all.take(4).is_none());
+    assert!(rt; all.get(2).is_some());
     Ok(())
 }
 

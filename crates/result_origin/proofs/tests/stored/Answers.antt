@@ -25,7 +25,7 @@ three_end outer inner again o i a n =
 
 pub returns : goal.returns
 returns c =
-    let made : c.put-3.new.self ≡ three c.in_ok-outer.field-0 c.in_ok-inner.field-0 c.in_ok-again.field-0 =
+    let made : c.put-3.new.self.stored ≡ three c.in_ok-outer.field-0 c.in_ok-inner.field-0 c.in_ok-again.field-0 =
     c.in_ok-put-3.ensures.ok
     ∙ ap (λ (m : Stored). insert m 3 c.in_ok-again.field-0)
     (c.in_ok-put-2.ensures.ok ∙ ap (λ (m : Stored). insert m 2 c.in_ok-inner.field-0) (c.in_ok-put.ensures.ok ∙ ap (λ (m : Stored). insert m 1 c.in_ok-outer.field-0) c.new-all.ensures)) in
