@@ -28,14 +28,19 @@ agrees old new place grown some = by (slice_get old place) refl some
 IsSome-grown : (old new : List NameParts) (place : ℕ) → Grows old new → IsSome (slice_get old place) → IsSome (slice_get new place)
 IsSome-grown old new place grown some = subst (λ (o : Option NameParts). IsSome o) (sym (agrees old new place grown some)) some
 
-within-grown : (old new : List NameParts) (uri : List ℕ) (id : NameId) → Grows old new → IsSome (slice_get old id.0) → is_within new uri id ≡ is_within old uri id
-within-grown old new uri id grown some = ap (λ (o : Option NameParts). option_map_or (λ (name : NameParts). bytes_eq name.uri uri) o false) (agrees old new id.0 grown some)
+within-grown : (old new : List NameParts) (uri : List ℕ) (id : NameId) → Grows old new → IsSome (slice_get old id.0) →
+    is_within new uri id ≡ is_within old uri id
+within-grown old new uri id grown some =
+    ap (λ (o : Option NameParts). option_map_or (λ (name : NameParts). bytes_eq name.uri uri) o false) (agrees old new id.0 grown some)
 
-named-grown : (old new : List NameParts) (uri local : List ℕ) (id : NameId) → Grows old new → IsSome (slice_get old id.0) → is_named new uri local id ≡ is_named old uri local id
+named-grown : (old new : List NameParts) (uri local : List ℕ) (id : NameId) → Grows old new → IsSome (slice_get old id.0) →
+    is_named new uri local id ≡ is_named old uri local id
 named-grown old new uri local id grown some =
-    ap (λ (o : Option NameParts). option_map_or (λ (name : NameParts). bytes_eq name.uri uri && bytes_eq name.local local) o false) (agrees old new id.0 grown some)
+    ap (λ (o : Option NameParts). option_map_or (λ (name : NameParts). bytes_eq name.uri uri && bytes_eq name.local local) o false)
+    (agrees old new id.0 grown some)
 
-same-grown : (old new : List NameParts) (a b : NameId) → Grows old new → IsSome (slice_get old a.0) → IsSome (slice_get old b.0) → are_same new a b ≡ are_same old a b
+same-grown : (old new : List NameParts) (a b : NameId) → Grows old new → IsSome (slice_get old a.0) → IsSome (slice_get old b.0) →
+    are_same new a b ≡ are_same old a b
 same-grown old new a b grown some other =
     let x : slice_get new a.0 ≡ slice_get old a.0 = agrees old new a.0 grown some in
     let y : slice_get new b.0 ≡ slice_get old b.0 = agrees old new b.0 grown other in
@@ -47,13 +52,15 @@ apart-grown old new [] grown apart = tt
 apart-grown old new (pair ∷ pairs) grown apart =
     (IsSome-grown old new pair.name.0 grown apart.0, others pairs apart.1 apart.2, apart-grown old new pairs grown apart.2)
   where
-    others : (more : List AttrPair) → AllByRecursion (λ (other : AttrPair). are_same old pair.name other.name ≡ false) more → AreApart old more →
+    others : (more : List AttrPair) → AllByRecursion (λ (other : AttrPair). are_same old pair.name other.name ≡ false) more →
+        AreApart old more →
         AllByRecursion (λ (other : AttrPair). are_same new pair.name other.name ≡ false) more
     others [] all known = tt
     others (other ∷ more) all known = (same-grown old new pair.name other.name grown apart.0 known.0 ∙ all.0, others more all.1 known.2)
 
 item-grown : (old new : List NameParts) (x : TreeItem) → Grows old new → IsNamed old x → IsNamed new x
-item-grown old new (item.Begin name attributes line) grown known = (IsSome-grown old new name.0 grown known.0, apart-grown old new attributes grown known.1)
+item-grown old new (item.Begin name attributes line) grown known =
+    (IsSome-grown old new name.0 grown known.0, apart-grown old new attributes grown known.1)
 item-grown old new (item.Text t) grown known = tt
 item-grown old new (item.Comment t) grown known = tt
 item-grown old new item.Finish grown known = tt
@@ -70,15 +77,18 @@ behind : (names : List NameParts) (xs ys : List TreeItem) → AreNamed names (xs
 behind names [] ys known = known
 behind names (x ∷ xs) ys known = behind names xs ys known.1
 
-plain-grown : (old new : List NameParts) (pairs : List AttrPair) → Grows old new → AreApart old pairs → list_all (is_plain_attribute new) pairs ≡ list_all (is_plain_attribute old) pairs
+plain-grown : (old new : List NameParts) (pairs : List AttrPair) → Grows old new → AreApart old pairs →
+    list_all (is_plain_attribute new) pairs ≡ list_all (is_plain_attribute old) pairs
 plain-grown old new [] grown apart = refl
 plain-grown old new (pair ∷ pairs) grown apart =
     let one : is_within new xslt_uri pair.name ≡ is_within old xslt_uri pair.name = within-grown old new xslt_uri pair.name grown apart.0 in
-    let more : list_all (is_plain_attribute new) pairs ≡ list_all (is_plain_attribute old) pairs = plain-grown old new pairs grown apart.2 in
+    let more : list_all (is_plain_attribute new) pairs ≡ list_all (is_plain_attribute old) pairs =
+    plain-grown old new pairs grown apart.2 in
     let braces : Bool = not (list_any is_brace pair.value) in
     λ i. (not (one i) && braces) && more i
 
-alone-grown : (old new : List NameParts) (local : List ℕ) (pairs : List AttrPair) → Grows old new → AreApart old pairs → has_alone new local pairs ≡ has_alone old local pairs
+alone-grown : (old new : List NameParts) (local : List ℕ) (pairs : List AttrPair) → Grows old new → AreApart old pairs →
+    has_alone new local pairs ≡ has_alone old local pairs
 alone-grown old new local [] grown apart = refl
 alone-grown old new local (pair ∷ pairs) grown apart = ap (λ b. b && has_none pairs) (named-grown old new [] local pair.name grown apart.0)
 
@@ -87,34 +97,50 @@ body-grown old new given.end grown known = refl
 body-grown old new (given.text t rest) grown known = body-grown old new rest grown known.1
 body-grown old new (given.comment t rest) grown known = body-grown old new rest grown known.1
 body-grown old new (given.element name attributes line content rest) grown known =
-    let verbatim : is_instruction new (codes "text") name ≡ is_instruction old (codes "text") name = named-grown old new xslt_uri (codes "text") name grown known.0.0 in
-    let apply : is_instruction new (codes "apply-templates") name ≡ is_instruction old (codes "apply-templates") name = named-grown old new xslt_uri (codes "apply-templates") name grown known.0.0 in
+    let verbatim : is_instruction new (codes "text") name ≡ is_instruction old (codes "text") name =
+    named-grown old new xslt_uri (codes "text") name grown known.0.0 in
+    let apply : is_instruction new (codes "apply-templates") name ≡ is_instruction old (codes "apply-templates") name =
+    named-grown old new xslt_uri (codes "apply-templates") name grown known.0.0 in
     let inside : is_within new xslt_uri name ≡ is_within old xslt_uri name = within-grown old new xslt_uri name grown known.0.0 in
-    let plain : list_all (is_plain_attribute new) attributes ≡ list_all (is_plain_attribute old) attributes = plain-grown old new attributes grown known.0.1 in
-    let inner : is_body new content ≡ is_body old content = body-grown old new content grown (front old (items_of content) (item.Finish ∷ items_of rest) known.1) in
-    let more : is_body new rest ≡ is_body old rest = body-grown old new rest grown (behind old (items_of content) (item.Finish ∷ items_of rest) known.1).1 in
+    let plain : list_all (is_plain_attribute new) attributes ≡ list_all (is_plain_attribute old) attributes =
+    plain-grown old new attributes grown known.0.1 in
+    let inner : is_body new content ≡ is_body old content =
+    body-grown old new content grown (front old (items_of content) (item.Finish ∷ items_of rest) known.1) in
+    let more : is_body new rest ≡ is_body old rest =
+    body-grown old new rest grown (behind old (items_of content) (item.Finish ∷ items_of rest) known.1).1 in
     λ i. (if verbatim i then has_none attributes && has_texts_alone content
     else if apply i then has_none attributes && has_nothing content
     else not (inside i) && plain i && inner i) && more i
 
-templates-grown : (old new : List NameParts) (spaces : List Space) (tree : Given) → Grows old new → AreNamed old (items_of tree) → are_templates new spaces tree ≡ are_templates old spaces tree
+templates-grown : (old new : List NameParts) (spaces : List Space) (tree : Given) → Grows old new → AreNamed old (items_of tree) →
+    are_templates new spaces tree ≡ are_templates old spaces tree
 templates-grown old new spaces given.end grown known = refl
-templates-grown old new spaces (given.text t rest) grown known = ap (λ b. is_blank t && b) (templates-grown old new spaces rest grown known.1)
+templates-grown old new spaces (given.text t rest) grown known =
+    ap (λ b. is_blank t && b) (templates-grown old new spaces rest grown known.1)
 templates-grown old new spaces (given.comment t rest) grown known = templates-grown old new spaces rest grown known.1
 templates-grown old new spaces (given.element name attributes line content rest) grown known =
-    let one : is_instruction new (codes "template") name ≡ is_instruction old (codes "template") name = named-grown old new xslt_uri (codes "template") name grown known.0.0 in
-    let alone : has_alone new (codes "match") attributes ≡ has_alone old (codes "match") attributes = alone-grown old new (codes "match") attributes grown known.0.1 in
-    let inner : is_body new content ≡ is_body old content = body-grown old new content grown (front old (items_of content) (item.Finish ∷ items_of rest) known.1) in
-    let more : are_templates new spaces rest ≡ are_templates old spaces rest = templates-grown old new spaces rest grown (behind old (items_of content) (item.Finish ∷ items_of rest) known.1).1 in
+    let one : is_instruction new (codes "template") name ≡ is_instruction old (codes "template") name =
+    named-grown old new xslt_uri (codes "template") name grown known.0.0 in
+    let alone : has_alone new (codes "match") attributes ≡ has_alone old (codes "match") attributes =
+    alone-grown old new (codes "match") attributes grown known.0.1 in
+    let inner : is_body new content ≡ is_body old content =
+    body-grown old new content grown (front old (items_of content) (item.Finish ∷ items_of rest) known.1) in
+    let more : are_templates new spaces rest ≡ are_templates old spaces rest =
+    templates-grown old new spaces rest grown (behind old (items_of content) (item.Finish ∷ items_of rest) known.1).1 in
     λ i. ((one i && alone i && is_pattern spaces (match_of attributes)) && inner i) && more i
 
-pub built-grown : (old new : List NameParts) (spaces : List Space) (tree : Given) → Grows old new → AreNamed old (items_of tree) → is_built new spaces tree ≡ is_built old spaces tree
+pub built-grown : (old new : List NameParts) (spaces : List Space) (tree : Given) → Grows old new → AreNamed old (items_of tree) →
+    is_built new spaces tree ≡ is_built old spaces tree
 built-grown old new spaces given.end grown known = refl
 built-grown old new spaces (given.text t rest) grown known = built-grown old new spaces rest grown known.1
 built-grown old new spaces (given.comment t rest) grown known = built-grown old new spaces rest grown known.1
 built-grown old new spaces (given.element name attributes line content rest) grown known =
-    let sheet : is_instruction new (codes "stylesheet") name ≡ is_instruction old (codes "stylesheet") name = named-grown old new xslt_uri (codes "stylesheet") name grown known.0.0 in
-    let other : is_instruction new (codes "transform") name ≡ is_instruction old (codes "transform") name = named-grown old new xslt_uri (codes "transform") name grown known.0.0 in
-    let alone : has_alone new (codes "version") attributes ≡ has_alone old (codes "version") attributes = alone-grown old new (codes "version") attributes grown known.0.1 in
-    let inner : are_templates new spaces content ≡ are_templates old spaces content = templates-grown old new spaces content grown (front old (items_of content) (item.Finish ∷ items_of rest) known.1) in
+    let sheet : is_instruction new (codes "stylesheet") name ≡ is_instruction old (codes "stylesheet") name =
+    named-grown old new xslt_uri (codes "stylesheet") name grown known.0.0 in
+    let other : is_instruction new (codes "transform") name ≡ is_instruction old (codes "transform") name =
+    named-grown old new xslt_uri (codes "transform") name grown known.0.0 in
+    let alone : has_alone new (codes "version") attributes ≡ has_alone old (codes "version") attributes =
+    alone-grown old new (codes "version") attributes grown known.0.1 in
+    let inner : are_templates new spaces content ≡ are_templates old spaces content =
+    templates-grown old new spaces content grown (front old (items_of content) (item.Finish ∷ items_of rest) known.1) in
     λ i. ((sheet i || other i) && alone i) && inner i

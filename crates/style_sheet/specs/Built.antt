@@ -50,7 +50,8 @@ is_body names (given.element name attributes line content rest) =
 
 -- `/`, or a name whose prefix is declared
 abbrev pub is_pattern : List Space → List ℕ → Bool
-is_pattern spaces text = is_word text root_pattern || (is_name (encode_utf8_all text) && is_some (attribute_uri spaces (prefix_of (encode_utf8_all text))))
+is_pattern spaces text = is_word text root_pattern
+    || (is_name (encode_utf8_all text) && is_some (attribute_uri spaces (prefix_of (encode_utf8_all text))))
 
 -- the one attribute is this one, in no namespace
 abbrev pub has_alone : List NameParts → List ℕ → List AttrPair → Bool
@@ -72,7 +73,9 @@ are_templates names spaces (given.element name attributes line content rest) =
 
 -- the outermost element's one attribute is `version`
 abbrev pub is_sheet : List NameParts → NameId → List AttrPair → Bool
-is_sheet names name attributes = (is_instruction names (codes "stylesheet") name || is_instruction names (codes "transform") name) && has_alone names (codes "version") attributes
+is_sheet names name attributes =
+    (is_instruction names (codes "stylesheet") name || is_instruction names (codes "transform") name)
+    && has_alone names (codes "version") attributes
 
 abbrev pub is_built : List NameParts → List Space → Given → Bool
 is_built names spaces given.end = true

@@ -1,5 +1,12 @@
+pub mod Instructions
+pub mod Codes
+pub mod Bodies
+pub mod BodiesFall
+pub mod Order
+pub mod Sheet
 pub mod Styles
 pub mod Built
 pub mod Modules
 pub mod Steps
+pub mod Openings
 pub mod Comments

@@ -3,9 +3,9 @@ use Rattle.std.specs.Prelude.{◌≡◌, true, List, [], ◌∷◌}
 use Rattle.serna_kinds.specs.Names.{NameParts}
 use Rattle.tree_lines.specs.Given.{Given, items_of}
 use Rattle.tree_lines.specs.Tokens.{AreNamed, with_names}
-use Rattle.style_sheet.specs.declared.style.Rule.{Rule}
 use Rattle.style_sheet.specs.declared.reading.Module.{Module}
-use Rattle.style_sheet.specs.Styles.{rules_of, matched_names}
+use Rattle.style_sheet.specs.Sheet.{StyleValue, no_style}
+use Rattle.style_sheet.specs.Styles.{style_of, matched_names}
 use Rattle.style_sheet.specs.Built.{is_built}
 
 -- the names of the modules' trees are the table's
@@ -23,11 +23,11 @@ AreBuilt names [] = Unit {0}
 AreBuilt names (module_ ∷ []) = (tree : Given) → IsTreeOf module_ tree → is_built names module_.tree.spaces tree ≡ true
 AreBuilt names (module_ ∷ other ∷ modules) = ⊥
 
--- the modules' rules, with the numbers that names have in this table
-abbrev pub AreRules : List NameParts → List Module → List Rule → Type 0
-AreRules names [] rules = rules ≡ []
-AreRules names (module_ ∷ []) rules = (tree : Given) → IsTreeOf module_ tree → rules ≡ rules_of names module_.tree.spaces tree
-AreRules names (module_ ∷ other ∷ modules) rules = ⊥
+-- the stylesheet that the modules are, with the numbers that names have in this table
+abbrev pub IsStyle : List NameParts → List Module → StyleValue → Type 0
+IsStyle names [] style = style ≡ no_style
+IsStyle names (module_ ∷ []) style = (tree : Given) → IsTreeOf module_ tree → style ≡ style_of names module_.tree.spaces tree
+IsStyle names (module_ ∷ other ∷ modules) style = ⊥
 
 -- the table with the names that the modules' rules are for
 abbrev pub HasMatched : List NameParts → List Module → List NameParts → Type 0

@@ -1,6 +1,6 @@
 -- The rules that a stylesheet's tree says (XSLT 1.0, sections 2.2, 3.4, 5, 7.1.1 and 7.2), in the form that is built: rules for the
 -- document node and for elements of a name, whose bodies have text, elements of the result and `xsl:apply-templates`.
-use Rattle.std.specs.Prelude.{ℕ, ◌+◌, ◌&&◌, not, Bool, true, false, List, [], ◌∷◌, ◌++◌, map, slice_get, pos, bytes_eq, codes, encode_utf8_all, Option, Some, None, if◌then◌else◌}
+use Rattle.std.specs.Prelude.{ℕ, ◌+◌, ◌++◌, ◌&&◌, not, Bool, true, false, List, [], ◌∷◌, slice_get, pos, bytes_eq, codes, encode_utf8_all, Option, Some, None, if◌then◌else◌}
 use Rattle.std.specs.Option.{option_map_or}
 use Rattle.serna_kinds.specs.declared.cells.NameId.{NameId}
 use Rattle.serna_kinds.specs.declared.cells.AttrPair.{AttrPair}
@@ -11,9 +11,10 @@ use Rattle.tree_lines.specs.Given.{Given}
 use Rattle.tree_lines.specs.Given as given
 use Rattle.style_sheet.specs.declared.style.Pattern.{Pattern}
 use Rattle.style_sheet.specs.declared.style.Pattern.TheVariants as pattern
-use Rattle.style_sheet.specs.declared.style.Instruction.{Instruction}
-use Rattle.style_sheet.specs.declared.style.Instruction.TheVariants as instruction
 use Rattle.style_sheet.specs.declared.style.Rule.{Rule}
+use Rattle.style_sheet.specs.Instructions.{Instructions}
+use Rattle.style_sheet.specs.Instructions as instruction
+use Rattle.style_sheet.specs.Sheet.{StyleValue, no_style}
 
 -- Names
 
@@ -26,7 +27,8 @@ abbrev pub is_within : List NameParts → List ℕ → NameId → Bool
 is_within names uri id = option_map_or (λ (name : NameParts). bytes_eq name.uri uri) (slice_get names id.0) false
 
 abbrev pub is_named : List NameParts → List ℕ → List ℕ → NameId → Bool
-is_named names uri local id = option_map_or (λ (name : NameParts). bytes_eq name.uri uri && bytes_eq name.local local) (slice_get names id.0) false
+is_named names uri local id =
+    option_map_or (λ (name : NameParts). bytes_eq name.uri uri && bytes_eq name.local local) (slice_get names id.0) false
 
 -- an instruction of this name
 abbrev pub is_instruction : List NameParts → List ℕ → NameId → Bool
@@ -53,34 +55,26 @@ keeps names around (pair ∷ pairs) = elim (space_of names pair) [ None ↦ keep
 
 -- Bodies
 
--- a text of a stylesheet: one of white space alone is nothing where white space is not kept
-abbrev pub text_in : Bool → List ℕ → List Instruction
-text_in kept text = if is_blank text && not kept then [] else instruction.Text text ∷ []
+-- a text of a stylesheet before other instructions: one of white space alone is nothing where white space is not kept
+abbrev pub text_in : Bool → List ℕ → Instructions → Instructions
+text_in kept t more = if is_blank t && not kept then more else instruction.text t more
 
 -- the texts in an `xsl:text` (section 7.2), as they are
-abbrev pub texts_in : Given → List Instruction
-texts_in given.end = []
-texts_in (given.text t rest) = instruction.Text t ∷ texts_in rest
-texts_in (given.comment t rest) = texts_in rest
-texts_in (given.element name attributes line content rest) = texts_in rest
-
-abbrev pub attribute_in : AttrPair → Instruction
-attribute_in pair = instruction.Attribute pair.name pair.value
-
--- an element of the result, around what its content says
-abbrev pub literal_in : NameId → List AttrPair → List Instruction → List Instruction
-literal_in name attributes content = instruction.Begin name ∷ (map attribute_in attributes ++ (content ++ instruction.Finish ∷ []))
+abbrev pub texts_in : Given → Instructions → Instructions
+texts_in given.end more = more
+texts_in (given.text t rest) more = instruction.text t (texts_in rest more)
+texts_in (given.comment t rest) more = texts_in rest more
+texts_in (given.element name attributes line content rest) more = texts_in rest more
 
 -- what neighbours in a body say, where white space is kept or not
-abbrev pub body_in : List NameParts → Bool → Given → List Instruction
-body_in names kept given.end = []
-body_in names kept (given.text t rest) = text_in kept t ++ body_in names kept rest
+abbrev pub body_in : List NameParts → Bool → Given → Instructions
+body_in names kept given.end = instruction.nothing
+body_in names kept (given.text t rest) = text_in kept t (body_in names kept rest)
 body_in names kept (given.comment t rest) = body_in names kept rest
 body_in names kept (given.element name attributes line content rest) =
-    (if is_instruction names (codes "text") name then texts_in content
-    else if is_instruction names (codes "apply-templates") name then instruction.ApplyTemplates ∷ []
-    else literal_in name attributes (body_in names (keeps names kept attributes) content))
-    ++ body_in names kept rest
+    if is_instruction names (codes "text") name then texts_in content (body_in names kept rest)
+    else if is_instruction names (codes "apply-templates") name then instruction.apply_templates (body_in names kept rest)
+    else instruction.element name attributes (body_in names (keeps names kept attributes) content) (body_in names kept rest)
 
 -- Rules
 
@@ -90,7 +84,8 @@ abbrev pub root_pattern : List ℕ
 root_pattern = codes "/"
 
 abbrev pub pattern_of : List NameParts → List Space → List ℕ → Pattern
-pattern_of names spaces text = if is_word text root_pattern then pattern.Root else pattern.Named (id_of names (attribute_name spaces (encode_utf8_all text)))
+pattern_of names spaces text =
+    if is_word text root_pattern then pattern.Root else pattern.Named (id_of names (attribute_name spaces (encode_utf8_all text)))
 
 -- its priority in hundredths (section 5.5)
 abbrev pub priority_of : Pattern → ℕ
@@ -102,8 +97,18 @@ abbrev pub match_of : List AttrPair → List ℕ
 match_of [] = []
 match_of (pair ∷ pairs) = pair.value
 
-abbrev pub rule_at : ℕ → Pattern → List Instruction → Rule
-rule_at place pattern body = record { pattern = pattern; precedence = 0; priority = pos (priority_of pattern); place = place; body = body }
+-- the rule of a place: so far each has a pattern, no name, no mode, and a body of its own, and its module imports nothing
+abbrev pub rule_at : ℕ → Pattern → Rule
+rule_at place pattern = record {
+  pattern = Some pattern;
+  name = None;
+  mode = None;
+  precedence = 0;
+  priority = pos (priority_of pattern);
+  place = place;
+  lowest = 0;
+  body = place;
+}
 
 -- the rules of the templates among neighbours, the first one at this place
 abbrev pub rules_in : List NameParts → List Space → ℕ → Given → List Rule
@@ -111,14 +116,22 @@ rules_in names spaces place given.end = []
 rules_in names spaces place (given.text t rest) = rules_in names spaces place rest
 rules_in names spaces place (given.comment t rest) = rules_in names spaces place rest
 rules_in names spaces place (given.element name attributes line content rest) =
-    rule_at place (pattern_of names spaces (match_of attributes)) (body_in names false content) ∷ rules_in names spaces (place + 1) rest
+    rule_at place (pattern_of names spaces (match_of attributes)) ∷ rules_in names spaces (place + 1) rest
 
--- the rules of a stylesheet: those of the templates in its outermost element
-abbrev pub rules_of : List NameParts → List Space → Given → List Rule
-rules_of names spaces given.end = []
-rules_of names spaces (given.text t rest) = rules_of names spaces rest
-rules_of names spaces (given.comment t rest) = rules_of names spaces rest
-rules_of names spaces (given.element name attributes line content rest) = rules_in names spaces 0 content
+-- their bodies
+abbrev pub bodies_in : List NameParts → Given → List Instructions
+bodies_in names given.end = []
+bodies_in names (given.text t rest) = bodies_in names rest
+bodies_in names (given.comment t rest) = bodies_in names rest
+bodies_in names (given.element name attributes line content rest) = body_in names false content ∷ bodies_in names rest
+
+-- a stylesheet: the rules and the bodies of the templates in its outermost element
+abbrev pub style_of : List NameParts → List Space → Given → StyleValue
+style_of names spaces given.end = no_style
+style_of names spaces (given.text t rest) = style_of names spaces rest
+style_of names spaces (given.comment t rest) = style_of names spaces rest
+style_of names spaces (given.element name attributes line content rest) =
+    record { rules = rules_in names spaces 0 content; bodies = bodies_in names content }
 
 -- the names that the rules of neighbours are for
 abbrev pub matched_name : List Space → List ℕ → List NameParts

@@ -1,17 +1,18 @@
 //! A stylesheet read item by item.
-ghost use Rattle.std.specs.Prelude.{◌≡◌, ◌^◌, ◌<◌, List, Some, None, Err, IsSome, OnOk, true, false, length, map, slice_get, pos, [], ◌∷◌, if◌then◌else◌};
+ghost use Rattle.std.specs.Prelude.{◌≡◌, ◌^◌, ◌<◌, List, Some, None, Err, IsSome, IfOk, OnOk, true, false, length, map, slice_get, pos, [], ◌∷◌, if◌then◌else◌};
 ghost use Rattle.serna_kinds.specs.Names.{NameParts, Grows};
 ghost use Rattle.serna_kinds.specs.Apart.{AreApart};
 ghost use Rattle.serna_kinds.specs.Blanks.{is_blank};
 ghost use Rattle.tree_lines.specs.Tokens.{IsNamed};
-ghost use Rattle.style_sheet.specs.Styles.{attribute_in, text_in, priority_of, rule_at};
+ghost use Rattle.style_sheet.specs.Styles.{text_in, priority_of, rule_at};
 ghost use Rattle.style_sheet.specs.Built.{has_none, is_sheet};
-ghost use Rattle.style_sheet.specs.declared.style.Instruction.TheVariants as instruction;
-ghost use Rattle.style_sheet.specs.Steps.{no_reading, saying, within, out, at_place, with_rule, after_text, after_literal, after_inner, after_template, begin_at, finish_at, after, progress};
+ghost use Rattle.style_sheet.specs.Bodies.{body_of};
+ghost use Rattle.style_sheet.specs.Instructions as instruction;
+ghost use Rattle.style_sheet.specs.Steps.{no_reading, saying, opening, closing, within, out, at_place, with_rule, after_text, after_literal, after_inner, after_template, begin_at, finish_at, after, progress};
 
 use crate::names::{is_instruction, is_literal, is_sheet, keeps, template_pattern};
 use crate::texts::is_blank;
-use crate::{Instruction, Pattern, Rule, StyleFault};
+use crate::{Body, Instruction, Pattern, Rule, StyleFault};
 use serna_kinds::{AttrPair, Chars, Items, NameId, NameTable, NoMemory, Spaces};
 use std::alloc::Global;
 use std::marker::Model;
@@ -31,23 +32,38 @@ pub(crate) enum Place {
     Behind,
 }
 
-// What is read so far. `around` has the places around the present one, the outermost first; an item of a template adds to
-// `body`, and the template's end makes a rule of it.
+// An element of the result that has not ended: its name, its attributes, and the body in which it stands, up to it.
+#[derive(Drop)]
+pub(crate) struct Opened {
+    name: NameId,
+    attributes: Items<AttrPair>,
+    before: Body,
+}
+
+// What is read so far. `around` has the places around the present one, the outermost first, and `opened` the elements of the
+// result among them; an item of a template adds to `body`, and the template's end makes a rule of it.
 #[derive(Drop)]
 pub(crate) struct Reader {
     here: Place,
     around: Items<Place>,
-    body: Items<Instruction>,
+    opened: Items<Opened>,
+    body: Body,
     rules: Items<Rule>,
+    bodies: Items<Body>,
 }
 
 impl Model for Reader {
-    ghost use Rattle.std.specs.Prelude.{reverse};
+    ghost use Rattle.std.specs.Prelude.{map, reverse};
+    ghost use Rattle.std.specs.Coded.{codes};
+    ghost use Rattle.style_sheet.specs.Codes.{body_code};
+    ghost use Rattle.style_sheet.specs.Openings.{opened_by};
     ghost use Rattle.style_sheet.specs.Steps.{Reading};
 
     ghost Value = { Reading };
 
-    ghost view = { λ r. record { here = r.here; around = reverse r.around; body = r.body; rules = r.rules } };
+    ghost coded = { Prim.hlevel (codes, body_code (Prim.hlevel codes)) };
+
+    ghost view = { λ r. record { here = r.here; around = reverse r.around; opened = map opened_by (reverse r.opened); body = r.body; rules = r.rules; bodies = r.bodies } };
 }
 
 // The priority of a pattern in hundredths (XSLT 1.0, section 5.5).
@@ -72,6 +88,21 @@ fn only_blank(text: &Chars) -> Result<(), StyleFault>
     }
 }
 
+// Attributes in memory of their own.
+fn copy_attributes(alloc: Global, attributes: &[AttrPair]) -> Result<Items<AttrPair>, NoMemory>
+    ensures { IfOk result (λ same. same ≡ attributes.now) }
+{
+    let mut same = Items::new(alloc);
+    for pair in attributes {
+        let value = pair.value.copy()?;
+        same.push(AttrPair {
+            name: pair.name,
+            value,
+        })?;
+    }
+    Ok(same)
+}
+
 impl Reader {
     // Nothing is read yet. Takes no memory.
     pub(crate) fn new(alloc: Global) -> Reader
@@ -80,16 +111,19 @@ impl Reader {
         Reader {
             here: Place::Before,
             around: Items::new(alloc),
-            body: Items::new(alloc),
+            opened: Items::new(alloc),
+            body: Body::new(alloc),
             rules: Items::new(alloc),
+            bodies: Items::new(alloc),
         }
     }
 
-    // The rules that were read.
-    pub(crate) fn into_rules(self) -> Items<Rule>
-        ensures { result ≡ self.rules }
+    // The rules that were read, and their bodies.
+    pub(crate) fn into_parts(self) -> (Items<Rule>, Items<Body>)
+        ensures { result ≡ (self.rules, self.bodies) }
     {
-        self.rules
+        let Reader { rules, bodies, .. } = self;
+        (rules, bodies)
     }
 
     fn here(&self) -> Place
@@ -99,10 +133,9 @@ impl Reader {
     }
 
     fn say(&mut self, instruction: Instruction) -> Result<(), NoMemory>
-        ensures { OnOk result (self.new ≡ saying (instruction ∷ []) self.old) }
+        ensures { OnOk result (self.new ≡ saying (body_of (instruction ∷ [])) self.old) }
     {
-        self.body.push(instruction)?;
-        Ok(())
+        self.body.push(instruction)
     }
 
     // Goes to another place beside the present one.
@@ -131,26 +164,67 @@ impl Reader {
         };
     }
 
+    // Goes into an element of the result.
+    fn open(
+        &mut self,
+        alloc: Global,
+        name: NameId,
+        attributes: Items<AttrPair>,
+    ) -> Result<(), NoMemory>
+        ensures { OnOk result (self.new ≡ opening name attributes self.old) }
+    {
+        let before = mem::replace(&mut self.body, Body::new(alloc));
+        self.opened.push(Opened {
+            name,
+            attributes,
+            before,
+        })?;
+        Ok(())
+    }
+
+    // Leaves the innermost element of the result.
+    fn close(&mut self) -> Result<(), NoMemory>
+        ensures { OnOk result (self.new ≡ closing self.old) }
+    {
+        let Some(
+            Opened {
+                name,
+                attributes,
+                before,
+            },
+        ) = self.opened.pop()
+        else {
+            return Ok(());
+        };
+        let content = mem::replace(&mut self.body, before);
+        self.body
+            .push(Instruction::Element(name, attributes, content))
+    }
+
     // Ends a template: its body is the next rule's.
     fn end_template(&mut self, alloc: Global, pattern: Pattern) -> Result<(), NoMemory>
         requires { length self.old.rules < 2 ^ 32 }
-        ensures { OnOk result (self.new ≡ out (with_rule (rule_at (length self.old.rules) pattern self.old.body) self.old)) }
+        ensures { OnOk result (self.new ≡ out (with_rule (rule_at (length self.old.rules) pattern) self.old)) }
     {
-        let body = mem::replace(&mut self.body, Items::new(alloc));
+        let body = mem::replace(&mut self.body, Body::new(alloc));
         let place = self.rules.len() as u32;
+        self.bodies.push(body)?;
         self.rules.push(Rule {
-            pattern,
+            pattern: Some(pattern),
+            name: None,
+            mode: None,
             precedence: 0,
             priority: priority(pattern),
             place,
-            body,
+            lowest: 0,
+            body: place,
         })?;
         self.leave();
         Ok(())
     }
 
     fn say_text(&mut self, text: &Chars) -> Result<(), NoMemory>
-        ensures { OnOk result (self.new ≡ saying (instruction.Text text.now ∷ []) self.old) }
+        ensures { OnOk result (self.new ≡ saying (instruction.text text.now instruction.nothing) self.old) }
     {
         let text = text.copy()?;
         self.say(Instruction::Text(text))
@@ -158,7 +232,7 @@ impl Reader {
 
     // Reads a text of a body, where white space is kept or not.
     fn body_text(&mut self, kept: bool, text: &Chars) -> Result<(), NoMemory>
-        ensures { OnOk result (self.new ≡ saying (text_in kept text.now) self.old) }
+        ensures { OnOk result (self.new ≡ saying (text_in kept text.now instruction.nothing) self.old) }
     {
         if is_blank(text) && !kept {
             return Ok(());
@@ -181,19 +255,10 @@ impl Reader {
         }
     }
 
-    fn say_attributes(&mut self, attributes: &[AttrPair]) -> Result<(), NoMemory>
-        ensures { OnOk result (self.new ≡ saying (map attribute_in attributes.now) self.old) }
-    {
-        for pair in attributes {
-            let value = pair.value.copy()?;
-            self.say(Instruction::Attribute(pair.name, value))?;
-        }
-        Ok(())
-    }
-
     // Reads the beginning of an element of the result.
     fn begin_literal(
         &mut self,
+        alloc: Global,
         kept: bool,
         name: NameId,
         attributes: &[AttrPair],
@@ -207,8 +272,7 @@ impl Reader {
         if !is_literal(names, name, attributes) {
             return Err(StyleFault::NotBuilt);
         }
-        self.say(Instruction::Begin(name))?;
-        self.say_attributes(attributes)?;
+        self.open(alloc, name, copy_attributes(alloc, attributes)?)?;
         self.enter(Place::Literal(keeps(names, kept, attributes)))?;
         Ok(())
     }
@@ -227,7 +291,7 @@ impl Reader {
 
     // Reads the beginning of `xsl:apply-templates`.
     fn begin_apply(&mut self, attributes: &[AttrPair]) -> Result<(), StyleFault>
-        ensures done { OnOk result ((if has_none attributes.now then Some (within Place.Apply (saying (instruction.ApplyTemplates ∷ []) self.old)) else None) ≡ Some self.new) }
+        ensures done { OnOk result ((if has_none attributes.now then Some (within Place.Apply (saying (instruction.apply_templates instruction.nothing) self.old)) else None) ≡ Some self.new) }
         ensures refused { result ≡ Err StyleFault.NotBuilt → has_none attributes.now ≡ false }
     {
         if !attributes.is_empty() {
@@ -241,6 +305,7 @@ impl Reader {
     // Reads the beginning of an element of a body.
     fn begin_inner(
         &mut self,
+        alloc: Global,
         kept: bool,
         name: NameId,
         attributes: &[AttrPair],
@@ -257,7 +322,7 @@ impl Reader {
         if is_instruction(names, name, "apply-templates") {
             return self.begin_apply(attributes);
         }
-        self.begin_literal(kept, name, attributes, names)
+        self.begin_literal(alloc, kept, name, attributes, names)
     }
 
     // Reads the beginning of a template.
@@ -316,8 +381,8 @@ impl Reader {
         match self.here() {
             Place::Before => self.begin_sheet(name, attributes, names),
             Place::Sheet => self.begin_template(alloc, name, attributes, spaces, names),
-            Place::Template(_) => self.begin_inner(false, name, attributes, names),
-            Place::Literal(kept) => self.begin_inner(kept, name, attributes, names),
+            Place::Template(_) => self.begin_inner(alloc, false, name, attributes, names),
+            Place::Literal(kept) => self.begin_inner(alloc, kept, name, attributes, names),
             Place::Verbatim => Err(StyleFault::NotBuilt),
             Place::Apply => Err(StyleFault::NotBuilt),
             Place::Behind => Ok(()),
@@ -336,7 +401,7 @@ impl Reader {
             }
             Place::Template(pattern) => self.end_template(alloc, pattern),
             Place::Literal(_) => {
-                self.say(Instruction::Finish)?;
+                self.close()?;
                 self.leave();
                 Ok(())
             }

@@ -1,15 +1,17 @@
+//! Stylesheets, compiled from the trees of their modules.
 ghost use Rattle.std.specs.Prelude.{◌≡◌, ◌<◌, ◌^◌, true, List, length, IfOk, OnOk, Err, Some, None};
 ghost use Rattle.std.specs.Option.{option_map};
 ghost use Rattle.tree_lines.specs.Given.{Given, items_of};
 ghost use Rattle.tree_lines.specs.Tokens.{AreNamed, with_names};
-ghost use Rattle.style_sheet.specs.Styles.{rules_of, matched_names};
+ghost use Rattle.style_sheet.specs.Styles.{style_of, matched_names};
 ghost use Rattle.style_sheet.specs.Built.{is_built};
+ghost use Rattle.style_sheet.specs.Sheet.{IsNamedBy};
 ghost use Rattle.style_sheet.specs.Steps.{no_reading, progress, outcome, run};
 ghost use Rattle.serna_kinds.specs.Names.{NameParts, Grows};
-ghost use Rattle.style_sheet.specs.Modules.{AreNamedModules, AreBuilt, AreRules, HasMatched};
+ghost use Rattle.style_sheet.specs.Modules.{AreNamedModules, AreBuilt, IsStyle, HasMatched};
 
 use crate::reader::Reader;
-use crate::{Rule, Style};
+use crate::{Body, Rule, Style};
 use serna_kinds::{Chars, Items, NameTable, NoMemory, Spaces};
 use std::alloc::Global;
 use tree_lines::{Tree, TreeItem};
@@ -38,7 +40,7 @@ impl From<NoMemory> for StyleFault {
     }
 }
 
-/// The rules of a stylesheet, from its modules, whose names are the table's; it gets the names that rules are for. Without a
+/// A stylesheet, from its modules, whose names are the table's; it gets the names that rules are for. Without a
 /// module there are no rules.
 ///
 /// The built form (XSLT 1.0): one module, whose outermost element is `xsl:stylesheet` or `xsl:transform` with `version` alone;
@@ -51,9 +53,12 @@ pub fn compile(
     names: &mut NameTable,
 ) -> Result<Style, StyleFault>
     requires named { AreNamedModules names.old modules.now }
-    // What is compiled is of the built form, and its rules are those that the tree says, in this table and in each that grows from it.
+    // What is compiled is of the built form, and it is what the tree says, in this table and in each that grows from it.
     ensures built { OnOk result (AreBuilt names.old modules.now) }
-    ensures rules { IfOk result (λ style. (table : List NameParts) → Grows names.new table → AreRules table modules.now style) }
+    ensures style { IfOk result (λ style. (table : List NameParts) → Grows names.new table → IsStyle table modules.now style) }
+
+    // The names that its rules are for are the table's.
+    ensures names { IfOk result (λ style. IsNamedBy names.new style) }
 
     // Nothing that is of the built form is refused, unless memory runs out.
     ensures refused { result ≡ Err StyleFault.NotBuilt → AreBuilt names.old modules.now → ⊥ }
@@ -75,25 +80,26 @@ pub fn compile(
 fn style_of(alloc: Global, tree: &Tree, names: &mut NameTable) -> Result<Style, StyleFault>
     requires named { AreNamed names.old tree.now.items }
     ensures built { OnOk result ((given : Given) → tree.now.items ≡ items_of given → is_built names.old tree.now.spaces given ≡ true) }
-    ensures rules { IfOk result (λ style. (table : List NameParts) → Grows names.new table → (given : Given) → tree.now.items ≡ items_of given → style ≡ rules_of table tree.now.spaces given) }
+    ensures style { IfOk result (λ style. (table : List NameParts) → Grows names.new table → (given : Given) → tree.now.items ≡ items_of given → style ≡ style_of table tree.now.spaces given) }
+    ensures names { IfOk result (λ style. IsNamedBy names.new style) }
     ensures refused { result ≡ Err StyleFault.NotBuilt → ((given : Given) → tree.now.items ≡ items_of given → is_built names.old tree.now.spaces given ≡ true) → ⊥ }
     ensures table { OnOk result ((given : Given) → tree.now.items ≡ items_of given → names.new ≡ with_names names.old (matched_names tree.now.spaces given)) }
     ensures grows { Grows names.old names.new }
 {
-    let rules = rules_of(alloc, tree.items(), tree.spaces(), names)?;
-    Ok(Style::from_rules(rules))
+    let (rules, bodies) = read_items(alloc, tree.items(), tree.spaces(), names)?;
+    Ok(Style::from_parts(alloc, rules, bodies)?)
 }
 
-// The rules that items say, one after another.
-fn rules_of(
+// The rules that items say, and their bodies, one after another.
+fn read_items(
     alloc: Global,
     items: &[TreeItem],
     spaces: &Spaces,
     names: &mut NameTable,
-) -> Result<Items<Rule>, StyleFault>
+) -> Result<(Items<Rule>, Items<Body>), StyleFault>
     requires named { AreNamed names.old items.now }
     requires few { length items.now < 2 ^ 32 }
-    ensures done { IfOk result (λ rules. (table : List NameParts) → Grows names.new table → option_map outcome (run table spaces.now (progress no_reading names.old) items.now) ≡ Some (rules, names.new)) }
+    ensures done { IfOk result (λ parts. (table : List NameParts) → Grows names.new table → option_map outcome (run table spaces.now (progress no_reading names.old) items.now) ≡ Some (record { rules = parts.0; bodies = parts.1 }, names.new)) }
     ensures refused { result ≡ Err StyleFault.NotBuilt → (table : List NameParts) → Grows names.new table → run table spaces.now (progress no_reading names.old) items.now ≡ None }
     ensures grows { Grows names.old names.new }
 {
@@ -101,5 +107,5 @@ fn rules_of(
     for item in items {
         reader.read(alloc, item, spaces, names)?;
     }
-    Ok(reader.into_rules())
+    Ok(reader.into_parts())
 }

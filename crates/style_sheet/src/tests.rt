@@ -1,6 +1,6 @@
 //! What no clause says: that calls succeed, and worked stylesheets.
 use crate::*;
-use serna_kinds::{Chars, Items, NameId, NameTable, NoMemory};
+use serna_kinds::{AttrPair, Chars, Items, NameId, NameTable, NoMemory};
 use std::alloc::Global;
 use std::test::Fail;
 use tree_lines::{Line, read_tree};
@@ -44,7 +44,23 @@ fn push_parts(out: &mut String, parts: &[&str]) -> Result<(), NoMemory> {
     Ok(())
 }
 
-// Adds an instruction in short: `'TEXT`, `(NAME`, `@NAME=VALUE`, `)`, or `*` where templates are applied.
+// Adds attributes in short, each as `@NAME=VALUE`.
+fn push_attributes(
+    out: &mut String,
+    attributes: &[AttrPair],
+    names: &NameTable,
+) -> Result<(), NoMemory> {
+    for pair in attributes {
+        push_parts(
+            out,
+            &["@", local(names, pair.name), "=", pair.value.as_text()],
+        )?;
+    }
+    Ok(())
+}
+
+// Adds an instruction in short: `'TEXT`, `(NAME`, its attributes, its content and `)`, or `*` where templates are applied.
+#[cycle(shown)]
 fn push_short(
     out: &mut String,
     instruction: &Instruction,
@@ -52,73 +68,99 @@ fn push_short(
 ) -> Result<(), NoMemory> {
     match instruction {
         Instruction::Text(text) => push_parts(out, &["'", text.as_text()]),
-        Instruction::Begin(name) => push_parts(out, &["(", local(names, *name)]),
-        Instruction::Attribute(name, value) => {
-            push_parts(out, &["@", local(names, *name), "=", value.as_text()])
+        Instruction::Element(name, attributes, content) => {
+            push_parts(out, &["(", local(names, *name)])?;
+            push_attributes(out, attributes.as_slice(), names)?;
+            push_body(out, content, names)?;
+            push_parts(out, &[")"])
         }
-        Instruction::Finish => push_parts(out, &[")"]),
         Instruction::ApplyTemplates => push_parts(out, &["*"]),
     }
 }
 
-// Rules in short, each by its pattern, its priority, its place and its body.
-fn short(alloc: Global, rules: &[Rule], names: &NameTable) -> Result<String, NoMemory> {
+#[cycle(shown)]
+fn push_body(out: &mut String, body: &Body, names: &NameTable) -> Result<(), NoMemory> {
+    for instruction in body.instructions() {
+        push_short(out, instruction, names)?;
+    }
+    Ok(())
+}
+
+// A rule in short, by its pattern, its priority, its place and its body.
+fn push_rule(
+    alloc: Global,
+    out: &mut String,
+    rule: &Rule,
+    bodies: &[Body],
+    names: &NameTable,
+) -> Result<(), NoMemory> {
+    let pattern = match rule.pattern {
+        Some(Pattern::Root) => "/",
+        Some(Pattern::Named(id)) => local(names, id),
+        None => "?",
+    };
+    let head = format!(in alloc; "{pattern} {} {} ", rule.priority, rule.place)?;
+    out.push_str(head.as_str())?;
+    if let Some(body) = bodies.get(rule.body as usize) {
+        push_body(out, body, names)?;
+    }
+    out.push_str(";")?;
+    Ok(())
+}
+
+// The rules of a stylesheet in short, and their numbers, the greatest first.
+fn short(alloc: Global, style: &Style, names: &NameTable) -> Result<String, NoMemory> {
     let mut out = String::new(alloc);
-    for rule in rules {
-        let pattern = match rule.pattern {
-            Pattern::Root => "/",
-            Pattern::Named(id) => local(names, id),
-        };
-        let head = format!(in alloc; "{pattern} {} {} ", rule.priority, rule.place)?;
-        out.push_str(head.as_str())?;
-        for instruction in rule.body.as_slice() {
-            push_short(&mut out, instruction, names)?;
-        }
-        out.push_str(";")?;
+    for rule in style.rules() {
+        push_rule(alloc, &mut out, rule, style.bodies(), names)?;
+    }
+    for number in style.greatest_first() {
+        let shown = format!(in alloc; " {number}")?;
+        out.push_str(shown.as_str())?;
     }
     Ok(out)
 }
 
-// The rules of a stylesheet in short, or why it was not compiled.
+// A stylesheet in short, or why it was not compiled.
 fn outcome(alloc: Global, text: &str) -> Result<String, NoMemory> {
     let mut names = NameTable::new(alloc);
     match style_of(alloc, text, &mut names) {
-        Ok(style) => short(alloc, style.rules(), &names),
+        Ok(style) => short(alloc, &style, &names),
         Err(StyleFault::NotBuilt) => String::from_str(alloc, "not built"),
         Err(StyleFault::NoMemory) => String::from_str(alloc, "no memory"),
     }
 }
 
-// Templates, and their rules in short.
+// Templates, and their stylesheet in short.
 const TEMPLATES: [(&str, &str); 8] = [
     ("Cc\n-\\n\\t ", ""),
     (
         "(xsl:template\nAmatch /\n(xsl:apply-templates\nCc\n- \n)xsl:apply-templates\n)xsl:template\n(xsl:template\nAmatch p:a\n-x\n)xsl:template\n- \n(xsl:template\nAmatch p:a\n)xsl:template",
-        "/ 50 0 *;a 0 1 'x;a 0 2 ;",
+        "/ 50 0 *;a 0 1 'x;a 0 2 ; 0 2 1",
     ),
     (
         "(xsl:template\nAmatch a\n(b\nAx 1\nAp:y 2\n(c\n-t\n)c\n-u\n)b\n)xsl:template",
-        "a 0 0 (b@x=1@y=2(c't)'u);",
+        "a 0 0 (b@x=1@y=2(c't)'u); 0",
     ),
     (
         "(xsl:template\nAmatch a\n- \nCc\n- x\nCd\n- \n(b\n- \n)b\n-\\t\n)xsl:template",
-        "a 0 0 ' x(b);",
+        "a 0 0 ' x(b); 0",
     ),
     (
         "(xsl:template\nAmatch a\n(b\nAxml:space preserve\n- \n(c\n- \n(d\nAxml:space default\n- \n)d\n- \n)c\n)b\n- \n)xsl:template",
-        "a 0 0 (b@space=preserve' (c' (d@space=default)' ));",
+        "a 0 0 (b@space=preserve' (c' (d@space=default)' )); 0",
     ),
     (
         "(xsl:template\nAmatch a\n(b\nAxml:space keep\n- \n)b\n)xsl:template",
-        "a 0 0 (b@space=keep);",
+        "a 0 0 (b@space=keep); 0",
     ),
     (
         "(xsl:template\nAmatch a\n(xsl:text\n- \nCc\n-y\n)xsl:text\n- \n(xsl:text\n)xsl:text\n)xsl:template",
-        "a 0 0 ' 'y;",
+        "a 0 0 ' 'y; 0",
     ),
     (
         "(xsl:template\nAmatch xml:a\n(text\n- \n)text\n)xsl:template",
-        "a 0 0 (text);",
+        "a 0 0 (text); 0",
     ),
 ];
 
@@ -146,7 +188,7 @@ const NOT_BUILT: [&str; 16] = [
 const SHEETS: [(&str, &str); 5] = [
     (
         "(t:transform\nAversion 1.0\nAxmlns:t http://www.w3.org/1999/XSL/Transform\nAxmlns:u http://www.w3.org/1999/XSL/Transform\nAxmlns:xsl v\nAxmlns w\n(u:template\nAmatch a\n(t:text\n- \n)t:text\n(xsl:text\n- \n)xsl:text\n)u:template\n)t:transform\nCc",
-        "a 0 0 ' (text);",
+        "a 0 0 ' (text); 0",
     ),
     (
         "(xsl:stylesheet\nAversion 1.0\nAxmlns:xsl v\n)xsl:stylesheet",

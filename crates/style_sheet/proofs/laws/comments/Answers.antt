@@ -4,5 +4,5 @@ use Rattle.style_sheet.proofs.laws.comments.Goals as goal
 pub returns-clause-built : goal.returns-clause-built
 returns-clause-built c = comments-built
 
-pub returns-clause-rules : goal.returns-clause-rules
-returns-clause-rules c = comments-said
+pub returns-clause-style : goal.returns-clause-style
+returns-clause-style c = comments-said

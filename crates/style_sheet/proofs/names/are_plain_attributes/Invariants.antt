@@ -9,5 +9,6 @@ use Rattle.style_sheet.proofs.names.are_plain_attributes.Given as goal
 abbrev pub invariant-loop-pair : goal.invariant-loop-pair
 invariant-loop-pair l = record {
   apart : AreApart l.names (drop l.pair-index l.attributes);
-  same : (table : List NameParts) → Grows l.names table → list_all (is_plain_attribute table) l.attributes ≡ list_all (is_plain_attribute table) (drop l.pair-index l.attributes);
+  same : (table : List NameParts) → Grows l.names table →
+      list_all (is_plain_attribute table) l.attributes ≡ list_all (is_plain_attribute table) (drop l.pair-index l.attributes);
 }
