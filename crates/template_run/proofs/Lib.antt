@@ -1,3 +1,13 @@
 pub mod NodeLemmas
-pub mod Choosing
-pub mod AddedLemmas
+pub mod AskingLemmas
+pub mod LogLemmas
+pub mod TextLemmas
+pub mod PassedLemmas
+pub mod BodyLemmas
+pub mod SpotLemmas
+pub mod Known
+pub mod SeenLemmas
+pub mod AnswerLemmas
+pub mod FillLemmas
+pub mod AskedLemmas
+pub mod KeptLemmas

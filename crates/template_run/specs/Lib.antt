@@ -1,8 +1,11 @@
 pub mod Requests
-pub mod Chosen
+pub mod Nodes
+pub mod Matching
 pub mod Instances
 pub mod Batch
-pub mod Candidates
-pub mod Nodes
-pub mod Added
+pub mod Filled
+pub mod Results
+pub mod Labels
+pub mod Kept
+pub mod Allowed
 pub mod Worked

@@ -1,10 +1,14 @@
--- What the cells of a node say: what it is, its children, and its characters.
-use Rattle.std.specs.Prelude.{ℕ, List, [], map, Option}
+-- What the cells of a node say: what it is, its children, its characters, and its attributes (XPath 1.0, section 5).
+use Rattle.std.specs.Prelude.{ℕ, ◌==◌, Bool, List, [], ◌∷◌, map, Option, Some, None, is_some, if◌then◌else◌}
+use Rattle.std.specs.Option.{option_and_then}
 use Rattle.serna_kinds.specs.declared.cells.NodeName.{NodeName}
 use Rattle.serna_kinds.specs.declared.cells.NameId.{NameId}
+use Rattle.serna_kinds.specs.declared.cells.NodeRef.{NodeRef}
+use Rattle.serna_kinds.specs.declared.cells.NodeRef.TheVariants as ref
+use Rattle.serna_kinds.specs.declared.cells.AttrPair.{AttrPair}
 use Rattle.serna_kinds.specs.declared.cells.Kind.{Kind}
-use Rattle.source_model.specs.Source.{Body, Root, Element, Text, Comment, Forest, numbers}
-use Rattle.source_model.specs.Cells.{Spot, kind_of, name_of, named}
+use Rattle.source_model.specs.Source.{Body, Root, Element, Text, Comment, Forest, Source, numbers}
+use Rattle.source_model.specs.Cells.{Spot, spot_of, kind_of, name_of, named}
 
 abbrev pub label_of : Spot → Kind × Option NameId
 label_of spot = (kind_of spot.body, name_of spot.body)
@@ -26,3 +30,23 @@ characters_in (Comment text) = text
 
 abbrev pub characters_of : Spot → List ℕ
 characters_of spot = characters_in spot.body
+
+abbrev pub attributes_in : Body → List AttrPair
+attributes_in Root = []
+attributes_in (Element name attributes) = attributes
+attributes_in (Text text) = []
+attributes_in (Comment text) = []
+
+-- the value of the first attribute of a name's number
+abbrev pub value_among : NameId → List AttrPair → Option (List ℕ)
+value_among name [] = None
+value_among name (pair ∷ pairs) = if pair.name.0 == name.0 then Some pair.value else value_among name pairs
+
+-- the value of an attribute of the node of a number; None where there is no such node or attribute
+abbrev pub value_of : Source → NodeName → NameId → Option (List ℕ)
+value_of source n name = option_and_then (λ (spot : Spot). value_among name (attributes_in spot.body)) (spot_of source n.0)
+
+-- a node is in the source
+abbrev pub is_here : Source → NodeRef → Bool
+is_here source (ref.Node n) = is_some (spot_of source n.0)
+is_here source (ref.Attr n name) = is_some (value_of source n name)

@@ -1,6 +1,7 @@
 -- A worked example: a document of two paragraphs, of which one is empty, under a rule for `/` and one for `p`.
-use Rattle.std.specs.Prelude.{ℕ, List, [], ◌∷◌, pos, codes}
+use Rattle.std.specs.Prelude.{ℕ, List, [], ◌∷◌, pos, codes, Some, None}
 use Rattle.serna_kinds.specs.declared.cells.NameId.{NameId}
+use Rattle.serna_kinds.specs.declared.cells.AttrPair.{AttrPair}
 use Rattle.serna_kinds.specs.Names.{NameParts, name_parts, plain_name}
 use Rattle.source_model.specs.Source.{Root, Element, Text, none, node, Source}
 use Rattle.source_model.specs.Cells.{named}
@@ -8,9 +9,10 @@ use Rattle.result_origin.specs.declared.origin.Origin.TheVariants as origin
 use Rattle.result_origin.specs.Parts.{Mark, Run, Begin, Attr, AttrEnd, Finish}
 use Rattle.style_sheet.specs.declared.style.Pattern.{Pattern}
 use Rattle.style_sheet.specs.declared.style.Pattern.TheVariants as pattern
-use Rattle.style_sheet.specs.declared.style.Instruction.{Instruction}
-use Rattle.style_sheet.specs.declared.style.Instruction.TheVariants as instruction
 use Rattle.style_sheet.specs.declared.style.Rule.{Rule}
+use Rattle.style_sheet.specs.Instructions.{Instructions}
+use Rattle.style_sheet.specs.Instructions as instruction
+use Rattle.style_sheet.specs.Sheet.{StyleValue}
 
 abbrev pub formatting : List ℕ → NameParts
 formatting local = name_parts (codes "http://www.w3.org/1999/XSL/Format") local (codes "fo")
@@ -21,18 +23,29 @@ worked_names = plain_name (codes "doc") ∷ plain_name (codes "p") ∷ formattin
 abbrev pub numbered_name : ℕ → NameId
 numbered_name n = record { 0 = n }
 
-abbrev pub rule_at : ℕ → Pattern → List Instruction → Rule
-rule_at place pattern body = record { pattern = pattern; precedence = 0; priority = pos 0; place = place; body = body }
+abbrev pub rule_at : ℕ → Pattern → Rule
+rule_at place pattern = record { pattern = Some pattern; name = None; mode = None; precedence = 0; priority = pos 0; place = place; lowest = 0; body = place }
 
 -- the rule for `/` sets up the pages, the one for `p` makes a block of each paragraph
-abbrev pub worked_rules : List Rule
-worked_rules =
-    rule_at 0 pattern.Root
-    (instruction.Begin (numbered_name 2) ∷ instruction.Begin (numbered_name 3) ∷ instruction.Begin (numbered_name 4) ∷ instruction.Attribute (numbered_name 5) (codes "body") ∷ instruction.ApplyTemplates
-    ∷ instruction.Finish ∷ instruction.Finish ∷ instruction.Finish ∷ [])
-    ∷ rule_at 1 (pattern.Named (numbered_name 1))
-    (instruction.Begin (numbered_name 6) ∷ instruction.Text (codes "x:") ∷ instruction.ApplyTemplates ∷ instruction.Finish ∷ [])
-    ∷ []
+abbrev pub page_attributes : List AttrPair
+page_attributes = record { name = numbered_name 5; value = codes "body" } ∷ []
+
+abbrev pub page_body : Instructions
+page_body =
+    instruction.element (numbered_name 2) []
+    (instruction.element (numbered_name 3) []
+    (instruction.element (numbered_name 4) page_attributes (instruction.apply_templates instruction.nothing) instruction.nothing)
+    instruction.nothing)
+    instruction.nothing
+
+abbrev pub block_body : Instructions
+block_body = instruction.element (numbered_name 6) [] (instruction.text (codes "x:") (instruction.apply_templates instruction.nothing)) instruction.nothing
+
+abbrev pub worked_style : StyleValue
+worked_style = record {
+  rules = rule_at 0 pattern.Root ∷ rule_at 1 (pattern.Named (numbered_name 1)) ∷ [];
+  bodies = page_body ∷ block_body ∷ [];
+}
 
 -- `<doc><p>oak</p><p/></doc>`
 abbrev pub worked_source : Source

@@ -1,16 +1,17 @@
-//! Transformations: the result that a stylesheet makes of a source.
+//! Transformations: what an instance gives, and the result that a stylesheet makes of a source.
 #![tactic(auto)]
 
-mod choice;
+mod batch;
+mod body;
 mod laws;
+mod matching;
 mod nodes;
-mod request;
-mod run;
+mod result;
 
-pub use choice::choose;
-pub use laws::{the_greatest_is_chosen, worked_example};
-pub use request::{Call, Place, Request};
-pub use run::transform;
+pub use batch::transform;
+pub use body::run_body;
+pub use laws::{kept_results_make_the_whole, worked_example};
+pub use result::RunResult;
 
 #[cfg(test)]
 mod tests;

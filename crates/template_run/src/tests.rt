@@ -1,14 +1,16 @@
-//! What no clause says: that runs succeed, and what a result is made of.
+//! What no clause says: that runs succeed, and worked results.
 use super::*;
-use crate::run::Transformation;
+use crate::batch::Transformation;
+use instance_store::{Place, Request};
 use result_origin::Fragment;
 use serna_kinds::{
-    Cell, CellValue, Chars, Facet, Items, Kind, NameId, NameTable, NoMemory, NodeName, SourceView,
-    Tape,
+    AttrPair, Cell, CellValue, Chars, Facet, Items, Kind, NameId, NameTable, NoMemory, NodeName,
+    NodeRef, SourceView, Tape,
 };
-use std::alloc::Global;
+use std::alloc::{AllocError, Global};
 use std::test::Fail;
-use style_sheet::{Instruction, Pattern, Rule, Style};
+use style_sheet::{Choice, Module, Style, compile};
+use tree_lines::{Line, read_tree};
 
 // A node: what it is, an element's name, its children, and its characters.
 #[derive(Clone, Copy)]
@@ -19,7 +21,7 @@ struct Node {
     text: &'static str,
 }
 
-// A source whose nodes have their places as numbers.
+// A source without attributes whose nodes have their places as numbers.
 #[derive(Clone, Copy)]
 struct Nodes(&'static [Node]);
 
@@ -93,89 +95,133 @@ const EMPTY: [Node; 2] = [
     },
 ];
 
-fn rule(pattern: Pattern, place: u32, body: Items<Instruction>) -> Rule {
-    Rule {
-        pattern,
-        precedence: 0,
-        priority: 0,
-        place,
-        body,
+// A source that has these attributes at each node, and nothing else.
+#[derive(Drop)]
+struct Attributes(Items<AttrPair>);
+
+impl SourceView for Attributes {
+    ghost use Rattle.std.specs.Prelude.{Option, Some, None};
+    ghost use Rattle.serna_kinds.specs.declared.cells.Facet.TheVariants as facet;
+    ghost use Rattle.serna_kinds.specs.Content.{Content};
+    ghost use Rattle.serna_kinds.specs.Content as content;
+
+    ghost cells = { λ s cell. elim cell.facet as (λ _. Option Content) [
+      | facet.Label ↦ None
+      | facet.Kids ↦ None
+      | facet.Up ↦ None
+      | facet.Attrs ↦ Some (content.Attrs s.0)
+      | facet.Text ↦ None
+    ] };
+
+    fn read(&self, cell: Cell) -> Option<CellValue<'_>> {
+        match cell.facet {
+            Facet::Attrs => Some(CellValue::Attrs(self.0.as_slice())),
+            Facet::Label | Facet::Kids | Facet::Up | Facet::Text => None,
+        }
     }
 }
 
-// An element with something in it, and what the children give.
-fn element(alloc: Global, inner: Instruction) -> Result<Items<Instruction>, NoMemory> {
-    let mut body = Items::new(alloc);
-    body.push(Instruction::Begin(NameId(1)))?;
-    body.push(inner)?;
-    body.push(Instruction::ApplyTemplates)?;
-    body.push(Instruction::Finish)?;
-    Ok(body)
+// A rule for `/`, whose element has an attribute, and two rules for `p`, of which the later one has an element.
+const SHEET: [&str; 23] = [
+    "(xsl:stylesheet",
+    "Aversion 1.0",
+    "Axmlns:xsl http://www.w3.org/1999/XSL/Transform",
+    "(xsl:template",
+    "Amatch /",
+    "(b",
+    "Ak 1",
+    "(xsl:apply-templates",
+    ")xsl:apply-templates",
+    ")b",
+    ")xsl:template",
+    "(xsl:template",
+    "Amatch p",
+    "-x",
+    ")xsl:template",
+    "(xsl:template",
+    "Amatch p",
+    "(b",
+    "(xsl:apply-templates",
+    ")xsl:apply-templates",
+    ")b",
+    ")xsl:template",
+    ")xsl:stylesheet",
+];
+
+fn sheet_lines(alloc: Global) -> Result<Vec<Line>, NoMemory> {
+    let mut lines = Vec::new(alloc);
+    for line in SHEET {
+        let bytes = Items::from_slice(alloc, line.as_bytes())?;
+        lines.push(Line { number: 1, bytes })?;
+    }
+    Ok(lines)
 }
 
-fn text(alloc: Global, text: &str) -> Result<Items<Instruction>, NoMemory> {
-    let mut body = Items::new(alloc);
-    body.push(Instruction::Text(Chars::from_text(alloc, text)?))?;
-    Ok(body)
+// A table in which `p` has the number 0, `b` 1 and `k` 2.
+fn table(alloc: Global) -> Result<NameTable, NoMemory> {
+    let mut names = NameTable::new(alloc);
+    names.intern(alloc, "", "p", "")?;
+    names.intern(alloc, "", "b", "")?;
+    names.intern(alloc, "", "k", "")?;
+    Ok(names)
 }
 
-fn attribute(alloc: Global) -> Result<Instruction, NoMemory> {
-    let value = Chars::from_text(alloc, "1")?;
-    Ok(Instruction::Attribute(NameId(1), value))
+// The stylesheet. One that is not read counts as want of memory.
+fn sheet(alloc: Global, names: &mut NameTable) -> Result<Style, NoMemory> {
+    let lines = sheet_lines(alloc)?;
+    let Ok(tree) = read_tree(alloc, &lines, names) else {
+        return Err(AllocError);
+    };
+    let name = Chars::new(alloc)?;
+    compile(alloc, &[Module { name, tree }], names).map_err(|_| AllocError)
 }
 
-// A rule for `/`, whose element has an attribute, and two rules for the elements' name, of which the later one has an element.
-fn rules(alloc: Global) -> Result<Items<Rule>, NoMemory> {
-    let mut rules = Items::new(alloc);
-    rules.push(rule(Pattern::Root, 0, element(alloc, attribute(alloc)?)?))?;
-    rules.push(rule(Pattern::Named(NameId(0)), 1, text(alloc, "x")?))?;
-    let empty = Instruction::Text(Chars::new(alloc)?);
-    rules.push(rule(Pattern::Named(NameId(0)), 2, element(alloc, empty)?))?;
-    Ok(rules)
-}
+const FIRST: Place = Place {
+    position: 1,
+    size: 1,
+};
 
 // Levels, a source, and its result.
 const RUNS: [(u32, &[Node], &str); 3] = [
     (
         200,
         &FULL,
-        "Fragment { items: Items { items: [Begin(NameId(1), 0), Attr(NameId(1), Fragment { items: Items { items: [Run(Chars { text: \"1\" }, Fixed(0))] } }), Begin(NameId(1), 2), Run(Chars { text: \"t\" }, Text(NodeName(2), 0)), Finish, Finish] } }",
+        "Fragment { items: [Begin(NameId(1), 0), Attr(NameId(2)), Run(Chars { text: \"1\" }, Fixed(0)), AttrEnd, Begin(NameId(1), 2), Run(Chars { text: \"t\" }, Text(NodeName(2), 0)), Finish, Finish] }",
     ),
     (
         200,
         &EMPTY,
-        "Fragment { items: Items { items: [Begin(NameId(1), 0), Attr(NameId(1), Fragment { items: Items { items: [Run(Chars { text: \"1\" }, Fixed(0))] } }), Begin(NameId(1), 2), Run(Chars { text: \"\" }, Into(NodeName(1))), Finish, Finish] } }",
+        "Fragment { items: [Begin(NameId(1), 0), Attr(NameId(2)), Run(Chars { text: \"1\" }, Fixed(0)), AttrEnd, Begin(NameId(1), 2), Run(Chars { text: \"\" }, Into(NodeName(1))), Finish, Finish] }",
     ),
     (
         1,
         &FULL,
-        "Fragment { items: Items { items: [Begin(NameId(1), 0), Attr(NameId(1), Fragment { items: Items { items: [Run(Chars { text: \"1\" }, Fixed(0))] } }), Run(Chars { text: \"[deep]\" }, Fixed(0)), Finish] } }",
+        "Fragment { items: [Begin(NameId(1), 0), Attr(NameId(2)), Run(Chars { text: \"1\" }, Fixed(0)), AttrEnd, Run(Chars { text: \"[deep]\" }, Fixed(0)), Finish] }",
     ),
 ];
 
 #[test]
 fn runs_rules(rt: HostRuntime) -> Result<(), Fail> {
-    let rules = rules(rt.alloc())?;
-    let mut names = NameTable::new(rt.alloc());
-    names.intern(rt.alloc(), "", "p", "")?;
+    let mut names = table(rt.alloc())?;
+    let style = sheet(rt.alloc(), &mut names)?;
+    let root = Request::apply(rt.alloc(), NodeRef::Node(NodeName(0)), None);
     for (left, nodes, wanted) in RUNS {
         let mut tape = Tape::new(rt.alloc());
         let mut out = Fragment::new(rt.alloc());
         let transformation = Transformation {
             alloc: rt.alloc(),
-            rules: rules.as_slice(),
+            style: &style,
             names: &names,
             view: &Nodes(nodes),
         };
-        transformation.add_instance(left, NodeName(0), &mut tape, &mut out)?;
+        transformation.add_instance(left, &root, FIRST, &mut tape, &mut out)?;
         assert!(rt; format!(in rt.alloc(); "{out:?}")?.as_str() == wanted);
     }
     Ok(())
 }
 
 // What the built-in rules make of the full source.
-const BUILT_IN: &str =
-    "Fragment { items: Items { items: [Run(Chars { text: \"t\" }, Text(NodeName(2), 0))] } }";
+const BUILT_IN: &str = "Fragment { items: [Run(Chars { text: \"t\" }, Text(NodeName(2), 0))] }";
 
 #[test]
 fn runs_no_rules(rt: HostRuntime) -> Result<(), Fail> {
@@ -184,5 +230,59 @@ fn runs_no_rules(rt: HostRuntime) -> Result<(), Fail> {
     let mut tape = Tape::new(rt.alloc());
     let result = transform(rt.alloc(), &style, &Nodes(&FULL), &names, &mut tape)?;
     assert!(rt; format!(in rt.alloc(); "{result:?}")?.as_str() == BUILT_IN);
+    Ok(())
+}
+
+// What the built-in rules give for a node of a source, in the mode of the number 5.
+fn built_in<V: SourceView>(alloc: Global, view: &V, node: NodeRef) -> Result<RunResult, NoMemory> {
+    let style = Style::new(alloc);
+    let names = NameTable::new(alloc);
+    let mut tape = Tape::new(alloc);
+    let request = Request::apply(alloc, node, Some(NameId(5)));
+    run_body(
+        alloc,
+        &style,
+        Choice::BuiltIn,
+        &request,
+        FIRST,
+        view,
+        &names,
+        &mut tape,
+    )
+}
+
+// An attribute of the number 7.
+fn attribute(alloc: Global) -> Result<Attributes, NoMemory> {
+    let mut pairs = Items::new(alloc);
+    let value = Chars::from_text(alloc, "v")?;
+    pairs.push(AttrPair {
+        name: NameId(7),
+        value,
+    })?;
+    Ok(Attributes(pairs))
+}
+
+const VALUE: &str =
+    "Fragment { items: [Run(Chars { text: \"v\" }, Attr(NodeName(1), NameId(7), 0))] }";
+
+#[test]
+fn shows_an_attribute(rt: HostRuntime) -> Result<(), Fail> {
+    let view = attribute(rt.alloc())?;
+    let result = built_in(rt.alloc(), &view, NodeRef::Attr(NodeName(1), NameId(7)))?;
+    assert!(rt; format!(in rt.alloc(); "{:?}", result.fragment())?.as_str() == VALUE);
+    Ok(())
+}
+
+// The holes of an element with two children: what they ask for, each in the mode of the element.
+const HOLES: &str = "Fragment { items: [Hole(0), Hole(1)] }";
+
+const ASKED: &str =
+    "[Asked { request: Request { node: Node(NodeName(2)), mode: Some(NameId(5)), call: Apply, rule: None, passed: Items { items: [] } }, place: Place { position: 1, size: 2 } }, Asked { request: Request { node: Node(NodeName(3)), mode: Some(NameId(5)), call: Apply, rule: None, passed: Items { items: [] } }, place: Place { position: 2, size: 2 } }]";
+
+#[test]
+fn asks_for_the_children(rt: HostRuntime) -> Result<(), Fail> {
+    let result = built_in(rt.alloc(), &Nodes(&FULL), NodeRef::Node(NodeName(1)))?;
+    assert!(rt; format!(in rt.alloc(); "{:?}", result.fragment())?.as_str() == HOLES);
+    assert!(rt; format!(in rt.alloc(); "{:?}", result.asked())?.as_str() == ASKED);
     Ok(())
 }

@@ -1,0 +1,10 @@
+use Rattle.std.proofs.Common.{◌≡◌, ◌++◌, length, rules, sym, ap, ◌∙◌}
+use Rattle.std.proofs.lemmas.List.{append-nil}
+use Rattle.template_run.proofs.TextLemmas.{fixed_none}
+use Rattle.template_run.proofs.result.RunResult.say_fixed.Goals as goal
+
+pub returns-then-is_empty : goal.returns-then-is_empty
+returns-then-is_empty c =
+    let empty : length c.as_text.result.now ≡ 0 = search rules in
+    sym (append-nil c.args.self.now)
+    ∙ ap (λ ps. c.args.self.now ++ ps) (fixed_none c.args.rule c.args.text.now c.as_text.result.now c.as_text.ensures.characters empty)

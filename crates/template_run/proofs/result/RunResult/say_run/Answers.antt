@@ -1,0 +1,10 @@
+use Rattle.result_origin.specs.Parts as mark
+use Rattle.template_run.proofs.AskingLemmas.{said_asks, said_is}
+use Rattle.template_run.proofs.result.RunResult.say_run.Goals as goal
+
+pub invariant_of-self : goal.invariant_of-self
+invariant_of-self c =
+    said_asks c.push_run.result c.self.inside.fragment c.push_run.new.self c.self.inside.asked (mark.Run c.args.text c.args.origin) c.self.invariant c.push_run.ensures.ok c.push_run.ensures.err
+
+pub returns : goal.returns
+returns c = said_is c.push_run.result c.self.inside.fragment c.push_run.new.self c.self.inside.asked (mark.Run c.args.text c.args.origin) c.args.self.now c.self.invariant c.self.view_is c.push_run.ensures.ok
