@@ -1,4 +1,5 @@
-//! What no clause says: that calls succeed, and how two pages are printed, page by page and as one line.
+//! What no clause says: that calls succeed, how two pages are printed, page by page and as one line, and that a line is offered
+//! in one call.
 use super::*;
 use result_origin::{Face, Line, Origin, Page, Part, Run};
 use serna_kinds::{Chars, Items, NoMemory};
@@ -99,5 +100,30 @@ fn offers_lines(rt: HostRuntime) -> Result<(), Fail> {
     assert!(rt; offer("a\nb", &mut sink));
     assert!(rt; !offer("c", &mut sink));
     assert!(rt; sink.held() == b"a\nb".as_slice());
+    Ok(())
+}
+
+/// The number of the call of `write` that fails where three lines are offered, whether all is written, and what is held then:
+/// each call before it took one line with its LF.
+const CALLS: [(u64, bool, &str); 4] = [
+    (1, false, ""),
+    (2, false, "a\n"),
+    (3, false, "a\n\n"),
+    (4, true, "a\n\nb"),
+];
+
+fn sink_that_fails(alloc: Global, call: u64) -> Result<MemorySink, NoMemory> {
+    let mut failing = Items::new(alloc);
+    failing.push(call)?;
+    MemorySink::new(alloc, failing, 9)
+}
+
+#[test]
+fn offers_each_line_in_one_call(rt: HostRuntime) -> Result<(), Fail> {
+    for (call, written, held) in CALLS {
+        let mut sink = sink_that_fails(rt.alloc(), call)?;
+        assert!(rt; offer("a\n\nb", &mut sink) == written);
+        assert!(rt; sink.held() == held.as_bytes());
+    }
     Ok(())
 }

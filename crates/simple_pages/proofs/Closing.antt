@@ -51,3 +51,12 @@ adding so_far text origin marks = by_attributes so_far.attributes
 -- where nothing follows, the last group is closed
 pub ending : (so_far : LayingValue) → finished_with so_far [] ≡ with_group so_far.lines so_far.group
 ending so_far = closing so_far.lines so_far.group [] ∙ append-nil (with_group so_far.lines so_far.group)
+
+-- an item is gone past, or is the end: what is said of all by what was left is said of all by what is left
+pub past_item : (goes_on : Bool) (old new last all : List Line) → old ≡ cond goes_on new last → goes_on ≡ true → old ≡ all → new ≡ all
+past_item true old new last all is on so_far = sym is ∙ so_far
+past_item false old new last all is on so_far = absurd (cc)
+
+pub at_end : (goes_on : Bool) (old new last all : List Line) → old ≡ cond goes_on new last → goes_on ≡ false → old ≡ all → last ≡ all
+at_end true old new last all is off so_far = absurd (cc)
+at_end false old new last all is off so_far = sym is ∙ so_far

@@ -1,15 +1,14 @@
 //! The groups of neighbouring runs in a result, as lines.
 ghost use Rattle.std.specs.Prelude.{◌≡◌, ℕ, List, ◌+◌, [], ◌∷◌, ◌++◌, map, filter, IfOk, OnOk, if◌then◌else◌};
-ghost use Rattle.result_origin.specs.Parts.{ResultPart};
-ghost use Rattle.result_origin.specs.Items.{parts_in};
-ghost use Rattle.result_origin.specs.Steps.{part_of};
+ghost use Rattle.result_origin.specs.Parts.{ResultPart, marks_in};
+ghost use Rattle.result_origin.specs.Items.{part_of};
 ghost use Rattle.simple_pages.specs.Groups.{groups_in, up_to_end, is_line, runs_in};
 ghost use Rattle.simple_pages.specs.Pages.{line_at, lines_from};
-ghost use Rattle.simple_pages.specs.Shown.{shown_of, marks_in};
+ghost use Rattle.simple_pages.specs.Shown.{shown_of};
 ghost use Rattle.simple_pages.specs.Laying.{with_run, closed, finished_with, joined};
 
 use crate::runs::{Shown, is_line, line_of, next_down};
-use result_origin::{Item, Line, Step, Walk};
+use result_origin::{Item, Line};
 use serna_kinds::{Items, NoMemory};
 use std::alloc::{AllocError, Global};
 use std::marker::Model;
@@ -54,37 +53,40 @@ impl<'a> Laying<'a> {
         }
     }
 
-    /// Goes past one part. False at the end of the element that the first part stands in.
-    fn step(&mut self, alloc: Global, step: Step<'a>) -> Result<bool, NoMemory>
-        ensures { IfOk result (λ goes_on. (rest : List (ResultPart ℕ)) → finished_with self.old (marks_in (part_of step.entry ∷ rest)) ≡ (if goes_on then finished_with self.new (marks_in rest) else finished_with self.new [])) }
+    /// Goes past one item. False at the end of the element that the first item stands in.
+    fn step(&mut self, alloc: Global, item: &'a Item) -> Result<bool, NoMemory>
+        ensures { IfOk result (λ goes_on. (rest : List (ResultPart ℕ)) → finished_with self.old (marks_in (part_of item.now ∷ rest)) ≡ (if goes_on then finished_with self.new (marks_in rest) else finished_with self.new [])) }
     {
-        match step {
-            Step::Run(text, origin) => {
-                self.add(Shown { text, origin })?;
+        match item {
+            Item::Run(text, origin) => {
+                self.add(Shown {
+                    text,
+                    origin: *origin,
+                })?;
                 Ok(true)
             }
-            Step::Begin(_, _) => {
+            Item::Begin(_, _) => {
                 self.elements = one_more(self.elements)?;
                 self.close(alloc)?;
                 Ok(true)
             }
-            Step::Enter(_) => {
+            Item::Attr(_) => {
                 self.attributes = one_more(self.attributes)?;
                 self.close(alloc)?;
                 Ok(true)
             }
-            Step::Leave => {
+            Item::AttrEnd => {
                 self.attributes = self.attributes.saturating_sub(1);
                 self.close(alloc)?;
                 Ok(true)
             }
-            Step::Finish if self.elements == 0 => Ok(false),
-            Step::Finish => {
+            Item::Finish if self.elements == 0 => Ok(false),
+            Item::Finish => {
                 self.elements -= 1;
                 self.close(alloc)?;
                 Ok(true)
             }
-            Step::Hole(_) => Ok(true),
+            Item::Hole(_) => Ok(true),
         }
     }
 
@@ -132,19 +134,19 @@ fn one_more(count: u64) -> Result<u64, NoMemory>
 
 /// The lines of what items say up to the end of the element that they stand in.
 pub(crate) fn group_lines(alloc: Global, items: &[Item]) -> Result<Items<Line>, NoMemory>
-    ensures { IfOk result (λ lines. lines ≡ lines_from 0 (filter is_line (groups_in 0 (up_to_end 0 (marks_in (parts_in items.now)))))) }
+    ensures { IfOk result (λ lines. lines ≡ lines_from 0 (filter is_line (groups_in 0 (up_to_end 0 (marks_in (map part_of items.now)))))) }
 {
     let mut laying = Laying::new(alloc);
-    lay(alloc, Walk::new(alloc, items), &mut laying)?;
+    lay(alloc, items, &mut laying)?;
     laying.finish(alloc)
 }
 
-/// Goes past what a walk has, up to the end of the element that it stands in.
-fn lay<'a>(alloc: Global, mut walk: Walk<'a>, laying: &mut Laying<'a>) -> Result<(), NoMemory>
-    ensures { OnOk result (finished_with laying.new [] ≡ finished_with laying.old (marks_in walk.entry.parts)) }
+/// Goes past items, up to the end of the element that they stand in.
+fn lay<'a>(alloc: Global, items: &'a [Item], laying: &mut Laying<'a>) -> Result<(), NoMemory>
+    ensures { OnOk result (finished_with laying.new [] ≡ finished_with laying.old (marks_in (map part_of items.now))) }
 {
-    while let Some(step) = walk.next()? {
-        if !laying.step(alloc, step)? {
+    for item in items {
+        if !laying.step(alloc, item)? {
             return Ok(());
         }
     }
@@ -153,34 +155,36 @@ fn lay<'a>(alloc: Global, mut walk: Walk<'a>, laying: &mut Laying<'a>) -> Result
 
 /// The one line of all runs outside attributes.
 pub(crate) fn one_line(alloc: Global, items: &[Item]) -> Result<Items<Line>, NoMemory>
-    ensures { IfOk result (λ lines. lines ≡ line_at 0 (runs_in (marks_in (parts_in items.now))) ∷ []) }
+    ensures { IfOk result (λ lines. lines ≡ line_at 0 (runs_in (marks_in (map part_of items.now))) ∷ []) }
 {
     let mut runs = Items::new(alloc);
     let mut attributes = 0;
-    let mut walk = Walk::new(alloc, items);
-    while let Some(step) = walk.next()? {
-        attributes = add_outside(&mut runs, attributes, step)?;
+    for item in items {
+        attributes = add_outside(&mut runs, attributes, item)?;
     }
     let mut lines = Items::new(alloc);
     lines.push(line_of(alloc, 0, runs.as_slice())?)?;
     Ok(lines)
 }
 
-/// Adds the run that a step goes past, outside attributes. Answers how many attributes are open behind it.
+/// Adds the run that an item is, outside attributes. Answers how many attributes are open behind it.
 fn add_outside<'a>(
     runs: &mut Items<Shown<'a>>,
     attributes: u64,
-    step: Step<'a>,
+    item: &'a Item,
 ) -> Result<u64, NoMemory>
-    ensures { IfOk result (λ «open». (rest : List (ResultPart ℕ)) → map shown_of runs.old ++ joined (groups_in attributes (marks_in (part_of step.entry ∷ rest))) ≡ map shown_of runs.new ++ joined (groups_in «open» (marks_in rest))) }
+    ensures { IfOk result (λ «open». (rest : List (ResultPart ℕ)) → map shown_of runs.old ++ joined (groups_in attributes (marks_in (part_of item.now ∷ rest))) ≡ map shown_of runs.new ++ joined (groups_in «open» (marks_in rest))) }
 {
-    match step {
-        Step::Run(text, origin) if attributes == 0 => {
-            runs.push(Shown { text, origin })?;
+    match item {
+        Item::Run(text, origin) if attributes == 0 => {
+            runs.push(Shown {
+                text,
+                origin: *origin,
+            })?;
             Ok(attributes)
         }
-        Step::Enter(_) => one_more(attributes),
-        Step::Leave => Ok(attributes.saturating_sub(1)),
-        Step::Run(_, _) | Step::Begin(_, _) | Step::Finish | Step::Hole(_) => Ok(attributes),
+        Item::Attr(_) => one_more(attributes),
+        Item::AttrEnd => Ok(attributes.saturating_sub(1)),
+        Item::Run(_, _) | Item::Begin(_, _) | Item::Finish | Item::Hole(_) => Ok(attributes),
     }
 }

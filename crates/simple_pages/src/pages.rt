@@ -1,9 +1,8 @@
-ghost use Rattle.std.specs.Prelude.{◌≡◌, List, true, false, IfOk, IfSome, IfNone};
-ghost use Rattle.result_origin.specs.Parts.{Mark, said};
-ghost use Rattle.result_origin.specs.Items.{parts_in};
+ghost use Rattle.std.specs.Prelude.{◌≡◌, map, true, false, IfOk, IfSome, IfNone};
+ghost use Rattle.result_origin.specs.Parts.{marks_in};
+ghost use Rattle.result_origin.specs.Items.{part_of};
 ghost use Rattle.simple_pages.specs.Groups.{is_root, is_root_name, within_first, up_to_end};
 ghost use Rattle.simple_pages.specs.Pages.{pages_of};
-ghost use Rattle.simple_pages.specs.Shown.{marks_in, starts_root};
 
 use crate::groups::{group_lines, one_line};
 use result_origin::{Fragment, Item, Page};
@@ -20,11 +19,11 @@ pub struct Laid {
     pub rooted: bool,
 }
 
-/// The pages of a result without holes, before there is layout: one page. Where the result begins with `fo:root`, each longest
-/// group of neighbouring runs in it is a line; else all runs outside attributes make one line.
+/// The pages of a result, before there is layout: one page. Where the first thing that it says is the start of `fo:root`, each
+/// longest group of neighbouring runs in it is a line; else all runs outside attributes make one line. Holes say nothing.
 pub fn lay_out(alloc: Global, whole: &Fragment, names: &NameTable) -> Result<Laid, NoMemory>
-    ensures pages { IfOk result (λ laid. (marks : List Mark) → whole.now ≡ said marks → laid.pages ≡ pages_of names.now marks) }
-    ensures rooted { IfOk result (λ laid. (marks : List Mark) → whole.now ≡ said marks → laid.rooted ≡ is_root names.now marks) }
+    ensures pages { IfOk result (λ laid. laid.pages ≡ pages_of names.now (marks_in whole.now)) }
+    ensures rooted { IfOk result (λ laid. laid.rooted ≡ is_root names.now (marks_in whole.now)) }
 {
     let mut pages = Items::new(alloc);
     match within_root(whole.items(), names) {
@@ -47,30 +46,23 @@ pub fn lay_out(alloc: Global, whole: &Fragment, names: &NameTable) -> Result<Lai
     }
 }
 
-/// The items behind the start of `fo:root`, where items begin with it.
+/// The items behind the start of `fo:root`, where it is the first thing that items say.
 fn within_root<'a>(items: &'a [Item], names: &NameTable) -> Option<&'a [Item]>
-    ensures root { IfSome result (λ rest. (marks : List Mark) → parts_in items.now ≡ said marks → is_root names.now marks ≡ true) }
-    ensures within { IfSome result (λ rest. (marks : List Mark) → parts_in items.now ≡ said marks → within_first marks ≡ up_to_end 0 (marks_in (parts_in rest.now))) }
-    ensures other { IfNone result ((marks : List Mark) → parts_in items.now ≡ said marks → is_root names.now marks ≡ false) }
+    ensures root { IfSome result (λ rest. is_root names.now (marks_in (map part_of items.now)) ≡ true) }
+    ensures within { IfSome result (λ rest. within_first (marks_in (map part_of items.now)) ≡ up_to_end 0 (marks_in (map part_of rest.now))) }
+    ensures other { IfNone result (is_root names.now (marks_in (map part_of items.now)) ≡ false) }
 {
-    let [first, rest @ ..] = items else {
-        return None;
-    };
-    if starts_root(first, names) {
-        Some(rest)
-    } else {
-        None
+    let mut rest = items;
+    while let [first, behind @ ..] = rest {
+        match first {
+            Item::Hole(_) => rest = behind,
+            Item::Begin(name, _) if is_root_name(*name, names) => return Some(behind),
+            Item::Begin(_, _) | Item::Run(_, _) | Item::Attr(_) | Item::AttrEnd | Item::Finish => {
+                return None;
+            }
+        }
     }
-}
-
-/// Whether an item is the start of `fo:root`.
-fn starts_root(item: &Item, names: &NameTable) -> bool
-    ensures { result ≡ starts_root names.now item.now }
-{
-    match item {
-        Item::Begin(name, _) => is_root_name(*name, names),
-        Item::Run(_, _) | Item::Attr(_, _) | Item::Finish | Item::Hole(_) => false,
-    }
+    None
 }
 
 fn is_root_name(id: NameId, names: &NameTable) -> bool

@@ -12,9 +12,9 @@ const ROOT: NameId = NameId(0);
 const OTHER: NameId = NameId(1);
 
 /// A result, whether it begins with `fo:root`, and the lines of its page. In a result `<` begins `fo:root`, `[` another element,
-/// `>` and `]` end one, `@` is an attribute, `?` a place for text, and anything else a run. Each line begins with its height on the page;
-/// a dot stands behind each part, and a bar behind each line.
-const ROWS: [(&str, bool, &str); 8] = [
+/// `>` and `]` end one, `@` is an attribute, `?` a place for text, `_` a hole, and anything else a run. Each line begins with its
+/// height on the page; a dot stands behind each part, and a bar behind each line.
+const ROWS: [(&str, bool, &str); 10] = [
     ("", false, "0 |"),
     ("[a@ <b>]c", false, "0 a. .b.c.|"),
     ("<ab>", true, "0 a.b.|"),
@@ -23,6 +23,8 @@ const ROWS: [(&str, bool, &str); 8] = [
     ("< ?[a]>", true, "0  ..|14400 a.|"),
     ("<[a]>b", true, "0 a.|"),
     ("a<b>", false, "0 a.b.|"),
+    ("__<a_b>", true, "0 a.b.|"),
+    ("_a", false, "0 a.|"),
 ];
 
 fn letter(alloc: Global, character: char) -> Result<Chars, NoMemory> {
@@ -31,10 +33,10 @@ fn letter(alloc: Global, character: char) -> Result<Chars, NoMemory> {
     Chars::from_string(text)
 }
 
-fn attribute(alloc: Global) -> Result<Fragment, NoMemory> {
-    let mut value = Fragment::new(alloc);
-    value.push_run(letter(alloc, 'v')?, Origin::Fixed(0))?;
-    Ok(value)
+fn add_attribute(alloc: Global, whole: &mut Fragment) -> Result<(), NoMemory> {
+    whole.push_attr(OTHER)?;
+    whole.push_run(letter(alloc, 'v')?, Origin::Fixed(0))?;
+    whole.push_attr_end()
 }
 
 fn add(alloc: Global, whole: &mut Fragment, mark: char) -> Result<(), NoMemory> {
@@ -42,7 +44,8 @@ fn add(alloc: Global, whole: &mut Fragment, mark: char) -> Result<(), NoMemory> 
         '<' => whole.push_begin(ROOT, 0),
         '[' => whole.push_begin(OTHER, 0),
         '>' | ']' => whole.push_finish(),
-        '@' => whole.push_attr(OTHER, attribute(alloc)?),
+        '@' => add_attribute(alloc, whole),
+        '_' => whole.push_hole(7),
         '?' => whole.push_run(Chars::new(alloc)?, Origin::Into(NodeName(1))),
         _ => whole.push_run(letter(alloc, mark)?, Origin::Fixed(0)),
     }
