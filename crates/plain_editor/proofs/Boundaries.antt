@@ -13,7 +13,7 @@ use Rattle.result_origin.specs.declared.origin.Origin.TheVariants as origin
 use Rattle.result_origin.specs.declared.pages.Line.{Line}
 use Rattle.result_origin.specs.declared.pages.Page.{Page}
 use Rattle.result_origin.specs.Pages.{PartValue}
-use Rattle.style_sheet.specs.declared.style.Rule.{Rule}
+use Rattle.style_sheet.specs.Sheet.{StyleValue}
 use Rattle.plain_editor.specs.Views.{view_pages}
 use Rattle.plain_editor.specs.Stops.{behind_start, Boundary, boundary, run_boundaries, part_boundaries, line_boundaries, page_boundaries, Stop, stops_behind, stops_of, view_stops}
 use Rattle.plain_editor.specs.Seen.{StandsThere, shown_characters, ShowsItsPlace, ShowTheirPlaces}
@@ -177,15 +177,15 @@ each_boundary_stops pages here right (line, on, goes) =
     (subst (λ all. Contains (flat_map page_boundaries all) here) (sym on.on) (in_pages on.earlier on.page on.later here in_page))
 
 -- for the pages of a view
-pub view_stands : (names : List NameParts) (rules : List Rule) (s : Source) (here : Boundary) (right : List ℕ) → StandsOnRight (view_pages names rules s) here right → StandsThere s right here.origin
-view_stands names rules s here right on = right_stands s (view_pages names rules s) here right (view_seen names rules s) on
+pub view_stands : (names : List NameParts) (style : StyleValue) (s : Source) (here : Boundary) (right : List ℕ) → StandsOnRight (view_pages names style s) here right → StandsThere s right here.origin
+view_stands names style s here right on = right_stands s (view_pages names style s) here right (view_seen names style s) on
 
-pub view_stop_on : (names : List NameParts) (rules : List Rule) (s : Source) →
-    AllByRecursion (λ (stop : Stop). (right : List ℕ) × StandsOnRight (view_pages names rules s) (boundary_of stop) right) (view_stops names rules s)
+pub view_stop_on : (names : List NameParts) (style : StyleValue) (s : Source) →
+    AllByRecursion (λ (stop : Stop). (right : List ℕ) × StandsOnRight (view_pages names style s) (boundary_of stop) right) (view_stops names style s)
 unfolding view_stops
-view_stop_on names rules s = each_stop_on (view_pages names rules s)
+view_stop_on names style s = each_stop_on (view_pages names style s)
 
-pub view_boundary_stops : (names : List NameParts) (rules : List Rule) (s : Source) (here : Boundary) (right : List ℕ) → StandsOnRight (view_pages names rules s) here right →
-    Contains (map boundary_of (view_stops names rules s)) here
+pub view_boundary_stops : (names : List NameParts) (style : StyleValue) (s : Source) (here : Boundary) (right : List ℕ) → StandsOnRight (view_pages names style s) here right →
+    Contains (map boundary_of (view_stops names style s)) here
 unfolding view_stops
-view_boundary_stops names rules s here right on = each_boundary_stops (view_pages names rules s) here right on
+view_boundary_stops names style s here right on = each_boundary_stops (view_pages names style s) here right on

@@ -7,7 +7,7 @@ use Rattle.source_tree.specs.Places.{moved_through}
 use Rattle.source_tree.specs.Neighbours.{StandsBetween}
 use Rattle.source_tree.proofs.TextPlaces.{size, size-append}
 use Rattle.source_tree.proofs.Neighbours.{text_put_in}
-use Rattle.style_sheet.specs.declared.style.Rule.{Rule as TemplateRule}
+use Rattle.style_sheet.specs.Sheet.{StyleValue}
 use Rattle.result_origin.specs.declared.pages.Page.{Page}
 use Rattle.plain_editor.specs.Commands.{command_of, Show, At, Typing}
 use Rattle.plain_editor.specs.Views.{view_pages}
@@ -23,18 +23,18 @@ use Rattle.plain_editor.proofs.Keystrokes.{done_if, typing_is}
 abbrev Answer : Type 0
 Answer = Editor × Reply
 
-pub show_shown : (rules : List TemplateRule) (editor : Editor) (said : List ℕ) → command_of said ≡ Show → IsShown rules (step rules editor said).0
-show_shown rules editor said says = subst (λ (answer : Answer). IsShown rules answer.0) (sym (ap (obeyed rules editor) says)) (refl, refl)
+pub show_shown : (style : StyleValue) (editor : Editor) (said : List ℕ) → command_of said ≡ Show → IsShown style (step style editor said).0
+show_shown style editor said says = subst (λ (answer : Answer). IsShown style answer.0) (sym (ap (obeyed style editor) says)) (refl, refl)
 
 -- the stop that was taken is one of the view
-taken_seen : (rules : List TemplateRule) (editor new : Editor) (page line column : ℕ) → IsShown rules editor → TakesFirst page line column editor new →
-    IsSeenAt (view_pages editor.names rules editor.source) editor.source page line column new.caret
-taken_seen rules editor new page line column is takes =
-    let pages : List Page = view_pages editor.names rules editor.source in
-    let stops : List Stop = view_stops editor.names rules editor.source in
+taken_seen : (style : StyleValue) (editor new : Editor) (page line column : ℕ) → IsShown style editor → TakesFirst page line column editor new →
+    IsSeenAt (view_pages editor.names style editor.source) editor.source page line column new.caret
+taken_seen style editor new page line column is takes =
+    let pages : List Page = view_pages editor.names style editor.source in
+    let stops : List Stop = view_stops editor.names style editor.source in
     let first = takes.chosen.first in
     let same : stops ≡ first.before ++ takes.stop ∷ first.after = same_Some stops takes.chosen.stops (sym is.0 ∙ takes.chosen.shown) ∙ first.among in
-    let on = each_of (λ (stop : Stop). (right : List ℕ) × StandsOnRight pages (boundary_of stop) right) stops first.before takes.stop first.after (view_stop_on editor.names rules editor.source) same in
+    let on = each_of (λ (stop : Stop). (right : List ℕ) × StandsOnRight pages (boundary_of stop) right) stops first.before takes.stop first.after (view_stop_on editor.names style editor.source) same in
     let there = first.is.0 in
     let here : boundary_of takes.stop ≡ boundary page line column takes.stop.origin = λ i. boundary (there.0 i) (there.1 i) (there.2 i) takes.stop.origin in
     record {
@@ -45,12 +45,12 @@ taken_seen rules editor new page line column is takes =
       at_place = takes.chosen.at_place;
       right = on.0;
       seen = subst (λ b. StandsOnRight pages b on.0) here on.1;
-      stands = view_stands editor.names rules editor.source (boundary_of takes.stop) on.0 on.1;
+      stands = view_stands editor.names style editor.source (boundary_of takes.stop) on.0 on.1;
     }
 
-pub put_seen : (rules : List TemplateRule) (editor : Editor) (said : List ℕ) (page line column : ℕ) → IsShown rules editor → command_of said ≡ At page line column → (step rules editor said).1 ≡ Done →
-    IsSeenAt (view_pages editor.names rules editor.source) editor.source page line column (step rules editor said).0.caret
-put_seen rules editor said page line column is says done = taken_seen rules editor (step rules editor said).0 page line column is (step_done rules editor said page line column says done)
+pub put_seen : (style : StyleValue) (editor : Editor) (said : List ℕ) (page line column : ℕ) → IsShown style editor → command_of said ≡ At page line column → (step style editor said).1 ≡ Done →
+    IsSeenAt (view_pages editor.names style editor.source) editor.source page line column (step style editor said).0.caret
+put_seen style editor said page line column is says done = taken_seen style editor (step style editor said).0 page line column is (step_done style editor said page line column says done)
 
 -- characters typed in a text
 between_done : (editor : Editor) (text before behind : List ℕ) (number : NodeName) (at occurrence : ℕ) → StandsBetween editor.source (place.Text number at) before behind →
@@ -65,9 +65,9 @@ between_done editor text before behind number at occurrence is e =
       (text_put_in editor.source number at before behind text is ∙ ap Some (sym (append_assoc before text behind)), size-append before text ∙ ap (λ n. n + size text) is.1),
     ))) e
 
-pub typed_between : (rules : List TemplateRule) (editor : Editor) (said text before behind : List ℕ) (number : NodeName) → command_of said ≡ Typing text → CaretBetween editor number before behind →
-    (step rules editor said).1 ≡ Done → CaretBetween (step rules editor said).0 number (before ++ text) behind
-typed_between rules editor said text before behind number says (at, occurrence, has, is) done =
-    let e = typing_is rules editor said text (record { place = place.Text number at; occurrence = occurrence }) says has in
+pub typed_between : (style : StyleValue) (editor : Editor) (said text before behind : List ℕ) (number : NodeName) → command_of said ≡ Typing text → CaretBetween editor number before behind →
+    (step style editor said).1 ≡ Done → CaretBetween (step style editor said).0 number (before ++ text) behind
+typed_between style editor said text before behind number says (at, occurrence, has, is) done =
+    let e = typing_is style editor said text (record { place = place.Text number at; occurrence = occurrence }) says has in
     subst (λ (a : Answer). CaretBetween a.0 number (before ++ text) behind) (sym e)
     (between_done editor text before behind number at occurrence is (subst (λ (a : Answer). a.1 ≡ Done) e done))

@@ -10,7 +10,7 @@ use Rattle.source_tree.specs.Places.{is_there, moved_through}
 use Rattle.plain_editor.specs.Stops.{Stop, place_of}
 use Rattle.result_origin.specs.declared.origin.Origin.{Origin}
 use Rattle.result_origin.specs.declared.origin.Origin.TheVariants as origin
-use Rattle.style_sheet.specs.declared.style.Rule.{Rule as TemplateRule}
+use Rattle.style_sheet.specs.Sheet.{StyleValue}
 use Rattle.plain_editor.specs.Commands.{command_of, At}
 use Rattle.plain_editor.specs.Editor.{Editor, Reply, Done, Refused, Rule, NoView, NoPlace, Gone, refused_by, with_caret, stands_at, caret_of, put_first, put_at, obeyed, step}
 use Rattle.plain_editor.specs.Choosing.{NoneIs, IsFirst, IsThere, IsPlaceThere, IsChosen, TakesFirst, FirstIsGone, TakesNone}
@@ -229,30 +229,30 @@ at_no_view editor page line column (Some stops) shown e =
     absurd (first_viewed editor (filter (stands_at page line column) stops) (filter_map caret_of (filter (stands_at page line column) stops)) e)
 
 -- from a command line
-step_at : (rules : List TemplateRule) (editor : Editor) (said : List ℕ) (page line column : ℕ) → command_of said ≡ At page line column → step rules editor said ≡ put_at editor page line column editor.stops
-step_at rules editor said page line column says = ap (obeyed rules editor) says
+step_at : (style : StyleValue) (editor : Editor) (said : List ℕ) (page line column : ℕ) → command_of said ≡ At page line column → step style editor said ≡ put_at editor page line column editor.stops
+step_at style editor said page line column says = ap (obeyed style editor) says
 
-pub step_done : (rules : List TemplateRule) (editor : Editor) (said : List ℕ) (page line column : ℕ) → command_of said ≡ At page line column → (step rules editor said).1 ≡ Done →
-    TakesFirst page line column editor (step rules editor said).0
-step_done rules editor said page line column says e =
-    let is = step_at rules editor said page line column says in
+pub step_done : (style : StyleValue) (editor : Editor) (said : List ℕ) (page line column : ℕ) → command_of said ≡ At page line column → (step style editor said).1 ≡ Done →
+    TakesFirst page line column editor (step style editor said).0
+step_done style editor said page line column says e =
+    let is = step_at style editor said page line column says in
     subst (λ (answer : Answer). TakesFirst page line column editor answer.0) (sym is)
     (at_done editor page line column editor.stops refl (subst (λ (answer : Answer). answer.1 ≡ Done) is e))
 
-pub step_gone : (rules : List TemplateRule) (editor : Editor) (said : List ℕ) (page line column : ℕ) → command_of said ≡ At page line column → (step rules editor said).1 ≡ Refused Gone →
+pub step_gone : (style : StyleValue) (editor : Editor) (said : List ℕ) (page line column : ℕ) → command_of said ≡ At page line column → (step style editor said).1 ≡ Refused Gone →
     FirstIsGone page line column editor
-step_gone rules editor said page line column says e =
-    at_gone editor page line column editor.stops refl (subst (λ (answer : Answer). answer.1 ≡ Refused Gone) (step_at rules editor said page line column says) e)
+step_gone style editor said page line column says e =
+    at_gone editor page line column editor.stops refl (subst (λ (answer : Answer). answer.1 ≡ Refused Gone) (step_at style editor said page line column says) e)
 
-pub step_no_view : (rules : List TemplateRule) (editor : Editor) (said : List ℕ) (page line column : ℕ) → command_of said ≡ At page line column → (step rules editor said).1 ≡ Refused NoView →
+pub step_no_view : (style : StyleValue) (editor : Editor) (said : List ℕ) (page line column : ℕ) → command_of said ≡ At page line column → (step style editor said).1 ≡ Refused NoView →
     editor.stops ≡ None
-step_no_view rules editor said page line column says e =
-    at_no_view editor page line column editor.stops refl (subst (λ (answer : Answer). answer.1 ≡ Refused NoView) (step_at rules editor said page line column says) e)
+step_no_view style editor said page line column says e =
+    at_no_view editor page line column editor.stops refl (subst (λ (answer : Answer). answer.1 ≡ Refused NoView) (step_at style editor said page line column says) e)
 
-pub step_refused : (rules : List TemplateRule) (editor : Editor) (said : List ℕ) (page line column : ℕ) (rule : Rule) → command_of said ≡ At page line column → (step rules editor said).1 ≡ Refused rule →
+pub step_refused : (style : StyleValue) (editor : Editor) (said : List ℕ) (page line column : ℕ) (rule : Rule) → command_of said ≡ At page line column → (step style editor said).1 ≡ Refused rule →
     (rule ≡ NoView → ⊥) → (rule ≡ Gone → ⊥) → TakesNone page line column editor rule
-step_refused rules editor said page line column rule says e viewed live =
-    at_refused editor page line column rule editor.stops refl (subst (λ (answer : Answer). answer.1 ≡ Refused rule) (step_at rules editor said page line column says) e) viewed live
+step_refused style editor said page line column rule says e viewed live =
+    at_refused editor page line column rule editor.stops refl (subst (λ (answer : Answer). answer.1 ≡ Refused rule) (step_at style editor said page line column says) e) viewed live
 
 -- it is done or refused
 placed_answered : (editor left : Editor) (b : Bool) → ((placed editor left b).1 ≡ Done) ⊎ ((rule : Rule) × ((placed editor left b).1 ≡ Refused rule))
@@ -271,8 +271,8 @@ at_answered editor page line column None = inr (NoView, refl)
 at_answered editor page line column (Some stops) =
     first_answered editor (filter (stands_at page line column) stops) (filter_map caret_of (filter (stands_at page line column) stops))
 
-pub step_answered : (rules : List TemplateRule) (editor : Editor) (said : List ℕ) (page line column : ℕ) → command_of said ≡ At page line column →
-    ((step rules editor said).1 ≡ Done) ⊎ ((rule : Rule) × ((step rules editor said).1 ≡ Refused rule))
-step_answered rules editor said page line column says =
-    subst (λ (answer : Answer). (answer.1 ≡ Done) ⊎ ((rule : Rule) × (answer.1 ≡ Refused rule))) (sym (step_at rules editor said page line column says))
+pub step_answered : (style : StyleValue) (editor : Editor) (said : List ℕ) (page line column : ℕ) → command_of said ≡ At page line column →
+    ((step style editor said).1 ≡ Done) ⊎ ((rule : Rule) × ((step style editor said).1 ≡ Refused rule))
+step_answered style editor said page line column says =
+    subst (λ (answer : Answer). (answer.1 ≡ Done) ⊎ ((rule : Rule) × (answer.1 ≡ Refused rule))) (sym (step_at style editor said page line column says))
     (at_answered editor page line column editor.stops)

@@ -26,7 +26,7 @@ use Rattle.source_tree.specs.Prims.{applied, with_tree, IsElement}
 use Rattle.serna_kinds.specs.Limits.{text_limit, node_limit, change_limit}
 use Rattle.source_tree.specs.Places.{IsPlaceOf, is_there, moved_through}
 use Rattle.source_tree.proofs.Applied.{spot_text}
-use Rattle.style_sheet.specs.declared.style.Rule.{Rule as TemplateRule}
+use Rattle.style_sheet.specs.Sheet.{StyleValue}
 use Rattle.plain_editor.specs.Commands.{Command, command_of}
 use Rattle.plain_editor.specs.Commands as command
 use Rattle.plain_editor.specs.Stops.{Stop}
@@ -210,22 +210,22 @@ into_done names editor text number occurrence proper is e =
     (λ _. typed_into names editor.source number (named (editor.source.made + 1)) text proper is refl))) e
 
 -- from a command line
-pub typing_is : (rules : List TemplateRule) (editor : Editor) (line text : List ℕ) (caret : Caret) → command_of line ≡ command.Typing text → editor.caret ≡ Some caret → step rules editor line ≡ typed_at editor text caret.place caret.occurrence
-typing_is rules editor line text caret says has = ap (obeyed rules editor) says ∙ ap (typed editor text) has
+pub typing_is : (style : StyleValue) (editor : Editor) (line text : List ℕ) (caret : Caret) → command_of line ≡ command.Typing text → editor.caret ≡ Some caret → step style editor line ≡ typed_at editor text caret.place caret.occurrence
+typing_is style editor line text caret says has = ap (obeyed style editor) says ∙ ap (typed editor text) has
 
-pub text_typed : (rules : List TemplateRule) (editor : Editor) (line text old : List ℕ) (number : NodeName) (at occurrence : ℕ) → command_of line ≡ command.Typing text →
-    editor.caret ≡ Some (record { place = place.Text number at; occurrence = occurrence }) → (step rules editor line).1 ≡ Done → text_at editor.source number.0 ≡ Some old →
-    HasOtherText number (inserted at text old) editor.source (step rules editor line).0.source
-text_typed rules editor line text old number at occurrence says has done is =
-    let e = typing_is rules editor line text (record { place = place.Text number at; occurrence = occurrence }) says has in
+pub text_typed : (style : StyleValue) (editor : Editor) (line text old : List ℕ) (number : NodeName) (at occurrence : ℕ) → command_of line ≡ command.Typing text →
+    editor.caret ≡ Some (record { place = place.Text number at; occurrence = occurrence }) → (step style editor line).1 ≡ Done → text_at editor.source number.0 ≡ Some old →
+    HasOtherText number (inserted at text old) editor.source (step style editor line).0.source
+text_typed style editor line text old number at occurrence says has done is =
+    let e = typing_is style editor line text (record { place = place.Text number at; occurrence = occurrence }) says has in
     subst (λ (a : Answer). HasOtherText number (inserted at text old) editor.source a.0.source) (sym e)
     (text_done editor text old number at occurrence is (subst (λ (a : Answer). a.1 ≡ Done) e done))
 
-pub into_typed : (rules : List TemplateRule) (names : List NameParts) (editor : Editor) (line text : List ℕ) (number : NodeName) (occurrence : ℕ) → IsSound names editor → command_of line ≡ command.Typing text →
-    editor.caret ≡ Some (record { place = place.Into number; occurrence = occurrence }) → (step rules editor line).1 ≡ Done →
-    HasNewFirstText number (named (editor.source.made + 1)) text editor.source (step rules editor line).0.source
-into_typed rules names editor line text number occurrence sound says has done =
-    let e = typing_is rules editor line text (record { place = place.Into number; occurrence = occurrence }) says has in
+pub into_typed : (style : StyleValue) (names : List NameParts) (editor : Editor) (line text : List ℕ) (number : NodeName) (occurrence : ℕ) → IsSound names editor → command_of line ≡ command.Typing text →
+    editor.caret ≡ Some (record { place = place.Into number; occurrence = occurrence }) → (step style editor line).1 ≡ Done →
+    HasNewFirstText number (named (editor.source.made + 1)) text editor.source (step style editor line).0.source
+into_typed style names editor line text number occurrence sound says has done =
+    let e = typing_is style editor line text (record { place = place.Into number; occurrence = occurrence }) says has in
     let is : IsPlaceOf editor.source (place.Into number) = subst (IsCaretOf editor.source) has sound.caret in
     subst (λ (a : Answer). HasNewFirstText number (named (editor.source.made + 1)) text editor.source a.0.source) (sym e)
     (into_done names editor text number occurrence sound.proper is (subst (λ (a : Answer). a.1 ≡ Done) e done))
@@ -277,13 +277,13 @@ keeps_told : (editor : Editor) (caret : Option Caret) → Keeps editor (told edi
 keeps_told editor None = λ rule e. refl
 keeps_told editor (Some caret) = λ rule e. cc
 
-keeps_obeyed : (rules : List TemplateRule) (editor : Editor) (said : Command) → Keeps editor (obeyed rules editor said)
-keeps_obeyed rules editor command.Show = λ rule e. cc
-keeps_obeyed rules editor (command.At page line column) = keeps_put editor page line column editor.stops
-keeps_obeyed rules editor (command.Typing text) = keeps_typed editor text editor.caret
-keeps_obeyed rules editor command.Where = keeps_told editor editor.caret
-keeps_obeyed rules editor command.Tree = λ rule e. cc
-keeps_obeyed rules editor command.NotBuilt = λ rule e. refl
+keeps_obeyed : (style : StyleValue) (editor : Editor) (said : Command) → Keeps editor (obeyed style editor said)
+keeps_obeyed style editor command.Show = λ rule e. cc
+keeps_obeyed style editor (command.At page line column) = keeps_put editor page line column editor.stops
+keeps_obeyed style editor (command.Typing text) = keeps_typed editor text editor.caret
+keeps_obeyed style editor command.Where = keeps_told editor editor.caret
+keeps_obeyed style editor command.Tree = λ rule e. cc
+keeps_obeyed style editor command.NotBuilt = λ rule e. refl
 
-pub refusal_keeps : (rules : List TemplateRule) (editor : Editor) (line : List ℕ) (rule : Rule) → (step rules editor line).1 ≡ Refused rule → (step rules editor line).0 ≡ editor
-refusal_keeps rules editor line = keeps_obeyed rules editor (command_of line)
+pub refusal_keeps : (style : StyleValue) (editor : Editor) (line : List ℕ) (rule : Rule) → (step style editor line).1 ≡ Refused rule → (step style editor line).0 ≡ editor
+refusal_keeps style editor line = keeps_obeyed style editor (command_of line)

@@ -1,15 +1,17 @@
 -- Where the texts of a result come from: each run is the text of a text node, or the empty one into an element without children, or none
 -- of the source's.
-use Rattle.std.proofs.Common.{◌≡◌, ℕ, zero, suc, ◌+◌, List, [], ◌∷◌, ◌++◌, filter, slice_get, Bool, true, false, if◌then◌else◌, Option, Some, None, refl, sym, ap, ◌∙◌, subst}
+use Rattle.std.proofs.Common.{◌≡◌, ℕ, zero, suc, ◌+◌, List, [], ◌∷◌, ◌++◌, map, filter, Bool, true, false, if◌then◌else◌, Option, Some, None, refl, sym, ap, ◌∙◌, subst}
 use Rattle.std.specs.List.{flat_map, onto_first, AllByRecursion}
-use Rattle.std.specs.Option.{option_and_then}
+use Rattle.std.specs.Option.{option_map, option_and_then}
 use Rattle.serna_kinds.specs.Names.{NameParts}
+use Rattle.serna_kinds.specs.declared.cells.AttrPair.{AttrPair}
+use Rattle.serna_kinds.specs.declared.cells.NameId.{NameId}
 use Rattle.serna_kinds.specs.declared.cells.NodeName.{NodeName}
 use Rattle.serna_kinds.specs.declared.cells.NodeRef.{NodeRef}
 use Rattle.serna_kinds.specs.declared.cells.NodeRef.TheVariants as node_ref
 use Rattle.source_model.specs.Source.{Body, Forest, Source, numbers}
 use Rattle.source_model.specs.Source as source
-use Rattle.source_model.specs.Cells.{Spot, spot_of}
+use Rattle.source_model.specs.Cells.{Spot, spot_of, named}
 use Rattle.source_model.specs.Changes.{characters, text_at}
 use Rattle.source_model.specs.Proper.{BeginsNoText}
 use Rattle.source_tree.specs.declared.prim.CaretPlace.TheVariants as place
@@ -18,16 +20,21 @@ use Rattle.source_tree.specs.Places.{IsPlaceOf}
 use Rattle.result_origin.specs.declared.origin.Origin.{Origin}
 use Rattle.result_origin.specs.declared.origin.Origin.TheVariants as origin
 use Rattle.result_origin.specs.Parts.{Mark, Run, Begin, Attr, AttrEnd, Finish, ResultPart, Says, Hole, filled}
-use Rattle.style_sheet.specs.declared.style.Rule.{Rule}
 use Rattle.style_sheet.specs.declared.style.Choice.{Choice}
 use Rattle.style_sheet.specs.declared.style.Choice.TheVariants as choice
-use Rattle.style_sheet.specs.declared.style.Instruction.{Instruction}
-use Rattle.style_sheet.specs.declared.style.Instruction.TheVariants as instruction
-use Rattle.template_run.specs.declared.request.Request.{Request}
-use Rattle.template_run.specs.Requests.{Asked, holes_for, apply_to}
-use Rattle.template_run.specs.Chosen.{chosen}
-use Rattle.template_run.specs.Instances.{fixed_text, children_parts, instruction_parts, body_parts, built_in_parts, rule_parts, choice_parts, spot_parts, node_parts, instance_parts}
-use Rattle.template_run.specs.Batch.{whole, batch}
+use Rattle.style_sheet.specs.Instructions.{Instructions}
+use Rattle.style_sheet.specs.Instructions as instruction
+use Rattle.style_sheet.specs.Sheet.{StyleValue}
+use Rattle.instance_store.specs.declared.request.Request.{Request}
+use Rattle.instance_store.specs.declared.request.Place.{Place}
+use Rattle.instance_store.specs.declared.request.Asked.{Asked}
+use Rattle.instance_store.specs.Requests.{place_at}
+use Rattle.template_choice.specs.Chosen.{chosen}
+use Rattle.template_run.specs.Requests.{holes_for, root_request}
+use Rattle.template_run.specs.Nodes.{value_of}
+use Rattle.template_run.specs.Matching.{fits}
+use Rattle.template_run.specs.Instances.{Context, context_of, fixed_text, attribute_parts, element_parts, children_parts, applied_in, joined, body_parts, or_fault, built_in_parts, value_parts, built_in_of, body_at, rule_parts, choice_parts}
+use Rattle.template_run.specs.Batch.{is_live, answer_parts, frag, whole, batch}
 use Rattle.simple_pages.specs.Groups.{ShownRun, groups_in, runs_in, is_line, up_to_end, within_first, lines_in}
 
 pub all_both : {A : Type 0} (P : A → Type 0) (xs ys : List A) → AllByRecursion P xs → AllByRecursion P ys → AllByRecursion P (xs ++ ys)
@@ -42,10 +49,10 @@ pub all_filter : {A : Type 0} (P : A → Type 0) (test : A → Bool) (xs : List 
 all_filter P test [] all = tt
 all_filter P test (x ∷ xs) all = kept P test x xs (test x) all.0 (all_filter P test xs all.1)
 
--- the run of a text
+-- the run of a text; one of an attribute's value shows it from its start
 abbrev pub IsFrom : Source → List ℕ → Origin → Type 0
 IsFrom s text (origin.Text n at) = (at ≡ 0) × (text_at s n.0 ≡ Some text)
-IsFrom s text (origin.Attr n name at) = Unit {0}
+IsFrom s text (origin.Attr n name at) = at ≡ 0
 IsFrom s text (origin.Into n) = (text ≡ []) × IsPlaceOf s (place.Into n)
 IsFrom s text (origin.Fixed rule) = Unit {0}
 IsFrom s text (origin.Computed rule n) = Unit {0}
@@ -67,71 +74,148 @@ IsFromPart s (Hole asked) = Unit {0}
 abbrev ArePartsFrom : Source → List (ResultPart Asked) → Type 0
 ArePartsFrom s parts = AllByRecursion (IsFromPart s) parts
 
-filled_from : (s : Source) (fill : Asked → List Mark) → ((asked : Asked) → AreFrom s (fill asked)) → (parts : List (ResultPart Asked)) → ArePartsFrom s parts → AreFrom s (filled fill parts)
+filled_from : (s : Source) (fill : Asked → List Mark) → ((asked : Asked) → AreFrom s (fill asked)) →
+    (parts : List (ResultPart Asked)) → ArePartsFrom s parts → AreFrom s (filled fill parts)
 filled_from s fill each [] all = tt
 filled_from s fill each (Says mark ∷ parts) all = (all.0, filled_from s fill each parts all.1)
-filled_from s fill each (Hole asked ∷ parts) all = all_both (IsFromMark s) (fill asked) (filled fill parts) (each asked) (filled_from s fill each parts all.1)
+filled_from s fill each (Hole asked ∷ parts) all =
+    all_both (IsFromMark s) (fill asked) (filled fill parts) (each asked) (filled_from s fill each parts all.1)
 
 -- the parts of an instance
-holes_from : (s : Source) (position size : ℕ) (ns : List ℕ) → ArePartsFrom s (holes_for position size ns)
-holes_from s position size [] = tt
-holes_from s position size (n ∷ ns) = (tt, holes_from s (position + 1) size ns)
+holes_from : (s : Source) (mode : Option NameId) (position size : ℕ) (ns : List NodeName) → ArePartsFrom s (holes_for mode position size ns)
+holes_from s mode position size [] = tt
+holes_from s mode position size (n ∷ ns) = (tt, holes_from s mode (position + 1) size ns)
 
 fixed_from : (s : Source) (rule : ℕ) (text : List ℕ) → ArePartsFrom s (fixed_text rule text)
 fixed_from s rule [] = tt
 fixed_from s rule (c ∷ cs) = (tt, tt)
 
-children_from : (s : Source) (n : NodeName) (spot : Spot) (body : Body) (kids : Forest) → spot_of s n.0 ≡ Some spot → spot.body ≡ body → spot.kids ≡ kids → ArePartsFrom s (children_parts n body kids)
-children_from s n spot source.Root kids found e f = holes_from s 1 _ (numbers kids)
-children_from s n spot (source.Element name attributes) source.none found e f = ((refl, (spot, found, subst IsElement (sym e) tt, subst BeginsNoText (sym f) tt)), tt)
-children_from s n spot (source.Element name attributes) (source.node k body below rest) found e f = holes_from s 1 _ (numbers (source.node k body below rest))
-children_from s n spot (source.Text t) kids found e f = tt
-children_from s n spot (source.Comment t) kids found e f = tt
+children_from : (s : Source) (mode : Option NameId) (n : NodeName) (spot : Spot) (body : Body) (kids : Forest) →
+    spot_of s n.0 ≡ Some spot → spot.body ≡ body → spot.kids ≡ kids →
+    ArePartsFrom s (children_parts mode n body kids)
+children_from s mode n spot source.Root kids found e f = holes_from s mode 1 _ (map named (numbers kids))
+children_from s mode n spot (source.Element name attributes) source.none found e f =
+    ((refl, (spot, found, subst IsElement (sym e) tt, subst BeginsNoText (sym f) tt)), tt)
+children_from s mode n spot (source.Element name attributes) (source.node k body below rest) found e f =
+    holes_from s mode 1 _ (map named (numbers (source.node k body below rest)))
+children_from s mode n spot (source.Text t) kids found e f = tt
+children_from s mode n spot (source.Comment t) kids found e f = tt
 
-instruction_from : (s : Source) (rule : ℕ) (n : NodeName) (spot : Spot) → spot_of s n.0 ≡ Some spot → (step : Instruction) → ArePartsFrom s (instruction_parts rule n spot step)
-instruction_from s rule n spot found (instruction.Text text) = fixed_from s rule text
-instruction_from s rule n spot found (instruction.Begin name) = (tt, tt)
-instruction_from s rule n spot found (instruction.Attribute name value) = (tt, all_both (IsFromPart s) (fixed_text rule value) (Says AttrEnd ∷ []) (fixed_from s rule value) (tt, tt))
-instruction_from s rule n spot found instruction.Finish = (tt, tt)
-instruction_from s rule n spot found instruction.ApplyTemplates = children_from s n spot spot.body spot.kids found refl refl
+spot_children_from : (s : Source) (mode : Option NameId) (n : NodeName) (spot : Option Spot) → spot_of s n.0 ≡ spot →
+    ArePartsFrom s (elim spot [ None ↦ [] | Some here ↦ children_parts mode n here.body here.kids ])
+spot_children_from s mode n None found = tt
+spot_children_from s mode n (Some spot) found = children_from s mode n spot spot.body spot.kids found refl refl
 
-body_from : (s : Source) (rule : ℕ) (n : NodeName) (spot : Spot) → spot_of s n.0 ≡ Some spot → (body : List Instruction) → ArePartsFrom s (body_parts rule n spot body)
-body_from s rule n spot found [] = tt
-body_from s rule n spot found (step ∷ body) =
-    all_both (IsFromPart s) (instruction_parts rule n spot step) (body_parts rule n spot body) (instruction_from s rule n spot found step) (body_from s rule n spot found body)
+applied_from : (s : Source) (mode : Option NameId) (node : NodeRef) → ArePartsFrom s (applied_in s mode node)
+applied_from s mode (node_ref.Node n) = spot_children_from s mode n (spot_of s n.0) refl
+applied_from s mode (node_ref.Attr n name) = tt
 
-built_in_from : (s : Source) (n : NodeName) (spot : Spot) (body : Body) → spot_of s n.0 ≡ Some spot → spot.body ≡ body → ArePartsFrom s (built_in_parts n spot body)
-built_in_from s n spot source.Root found e = children_from s n spot spot.body spot.kids found refl refl
-built_in_from s n spot (source.Element name attributes) found e = children_from s n spot spot.body spot.kids found refl refl
-built_in_from s n spot (source.Text t) found e = ((refl, ap (option_and_then (λ (p : Spot). characters p.body)) found ∙ ap characters e), tt)
-built_in_from s n spot (source.Comment t) found e = tt
+attributes_from : (s : Source) (rule : ℕ) (pairs : List AttrPair) → ArePartsFrom s (flat_map (attribute_parts rule) pairs)
+attributes_from s rule [] = tt
+attributes_from s rule (pair ∷ pairs) =
+    let one : ArePartsFrom s (attribute_parts rule pair) =
+    (tt, all_both (IsFromPart s) (fixed_text rule pair.value) (Says AttrEnd ∷ []) (fixed_from s rule pair.value) (tt, tt)) in
+    all_both (IsFromPart s) (attribute_parts rule pair) (flat_map (attribute_parts rule) pairs) one (attributes_from s rule pairs)
 
-rule_from : (s : Source) (number : ℕ) (n : NodeName) (spot : Spot) → spot_of s n.0 ≡ Some spot → (rule : Option Rule) → ArePartsFrom s (rule_parts number n spot rule)
-rule_from s number n spot found None = tt
-rule_from s number n spot found (Some rule) = body_from s number n spot found rule.body
+-- what instructions give, if none has a type fault
+abbrev ArePiecesFrom : Source → Option (List (ResultPart Asked)) → Type 0
+ArePiecesFrom s None = Unit {0}
+ArePiecesFrom s (Some parts) = ArePartsFrom s parts
 
-choice_from : (s : Source) (rules : List Rule) (n : NodeName) (spot : Spot) → spot_of s n.0 ≡ Some spot → (made : Choice) → ArePartsFrom s (choice_parts rules n spot made)
-choice_from s rules n spot found (choice.Rule number) = rule_from s number n spot found (slice_get rules number)
-choice_from s rules n spot found choice.BuiltIn = built_in_from s n spot spot.body found refl
+pieces_from : (s : Source) (a b : Option (List (ResultPart Asked))) → ArePiecesFrom s a → ArePiecesFrom s b → ArePiecesFrom s (joined a b)
+pieces_from s None b f g = tt
+pieces_from s (Some parts) None f g = tt
+pieces_from s (Some parts) (Some more) f g = all_both (IsFromPart s) parts more f g
 
-spot_from : (names : List NameParts) (rules : List Rule) (s : Source) (request : Request) (n : NodeName) (spot : Option Spot) → spot_of s n.0 ≡ spot → ArePartsFrom s (spot_parts names rules request n spot)
-spot_from names rules s request n None found = tt
-spot_from names rules s request n (Some spot) found = choice_from s rules n spot found (chosen names rules request.call spot.body)
+element_from : (s : Source) (rule : ℕ) (name : NameId) (attributes : List AttrPair) (content : Option (List (ResultPart Asked))) →
+    ArePiecesFrom s content →
+    ArePiecesFrom s (option_map (element_parts rule name attributes) content)
+element_from s rule name attributes None all = tt
+element_from s rule name attributes (Some content) all = (
+  tt,
+  all_both (IsFromPart s) (flat_map (attribute_parts rule) attributes) (content ++ Says Finish ∷ []) (attributes_from s rule attributes)
+      (all_both (IsFromPart s) content (Says Finish ∷ []) all (tt, tt)),
+)
 
-node_from : (names : List NameParts) (rules : List Rule) (s : Source) (request : Request) (node : NodeRef) → ArePartsFrom s (node_parts names rules request s node)
-node_from names rules s request (node_ref.Node n) = spot_from names rules s request n (spot_of s n.0) refl
-node_from names rules s request (node_ref.Attr n name) = tt
+body_from : (names : List NameParts) (s : Source) (rule : ℕ) (context : Context) (body : Instructions) →
+    ArePiecesFrom s (body_parts names s rule context body)
+body_from names s rule context instruction.nothing = tt
+body_from names s rule context (instruction.text t more) =
+    pieces_from s (Some (fixed_text rule t)) (body_parts names s rule context more) (fixed_from s rule t)
+    (body_from names s rule context more)
+body_from names s rule context (instruction.element name attributes content more) =
+    pieces_from s (option_map (element_parts rule name attributes) (body_parts names s rule context content))
+    (body_parts names s rule context more)
+    (element_from s rule name attributes (body_parts names s rule context content) (body_from names s rule context content))
+    (body_from names s rule context more)
+body_from names s rule context (instruction.apply_templates more) =
+    pieces_from s (Some (applied_in s None context.current)) (body_parts names s rule context more) (applied_from s None context.current)
+    (body_from names s rule context more)
 
-whole_from : (names : List NameParts) (rules : List Rule) (left : ℕ) (s : Source) (request : Request) → AreFrom s (whole names rules left s request)
+fault_from : (s : Source) (rule : ℕ) (pieces : Option (List (ResultPart Asked))) → ArePiecesFrom s pieces →
+    ArePartsFrom s (or_fault rule pieces)
+fault_from s rule None all = (tt, tt)
+fault_from s rule (Some parts) all = all
+
+built_in_from : (s : Source) (mode : Option NameId) (n : NodeName) (spot : Spot) (body : Body) → spot_of s n.0 ≡ Some spot →
+    spot.body ≡ body → ArePartsFrom s (built_in_parts mode n spot body)
+built_in_from s mode n spot source.Root found e = children_from s mode n spot spot.body spot.kids found refl refl
+built_in_from s mode n spot (source.Element name attributes) found e = children_from s mode n spot spot.body spot.kids found refl refl
+built_in_from s mode n spot (source.Text t) found e =
+    ((refl, ap (option_and_then (λ (p : Spot). characters p.body)) found ∙ ap characters e), tt)
+built_in_from s mode n spot (source.Comment t) found e = tt
+
+spot_built_in_from : (s : Source) (mode : Option NameId) (n : NodeName) (spot : Option Spot) → spot_of s n.0 ≡ spot →
+    ArePartsFrom s (elim spot [ None ↦ [] | Some here ↦ built_in_parts mode n here here.body ])
+spot_built_in_from s mode n None found = tt
+spot_built_in_from s mode n (Some spot) found = built_in_from s mode n spot spot.body found refl
+
+value_from : (s : Source) (n : NodeName) (name : NameId) (value : Option (List ℕ)) → ArePartsFrom s (value_parts n name value)
+value_from s n name None = tt
+value_from s n name (Some []) = tt
+value_from s n name (Some (c ∷ cs)) = (refl, tt)
+
+node_from : (s : Source) (mode : Option NameId) (node : NodeRef) → ArePartsFrom s (built_in_of s mode node)
+node_from s mode (node_ref.Node n) = spot_built_in_from s mode n (spot_of s n.0) refl
+node_from s mode (node_ref.Attr n name) = value_from s n name (value_of s n name)
+
+rule_from : (names : List NameParts) (s : Source) (number : ℕ) (request : Request) (place : Place) (body : Option Instructions) →
+    ArePartsFrom s (rule_parts names s number request place body)
+rule_from names s number request place None = tt
+rule_from names s number request place (Some body) =
+    fault_from s number (body_parts names s number (context_of number request place) body)
+    (body_from names s number (context_of number request place) body)
+
+choice_from : (names : List NameParts) (style : StyleValue) (s : Source) (request : Request) (place : Place) (made : Choice) →
+    ArePartsFrom s (choice_parts names style made request place s)
+choice_from names style s request place (choice.Rule number) = rule_from names s number request place (body_at style number)
+choice_from names style s request place choice.BuiltIn = node_from s request.mode request.node
+
+live_from : (s : Source) (b : Bool) (parts : List (ResultPart Asked)) → ArePartsFrom s parts → ArePartsFrom s (if b then parts else [])
+live_from s true parts all = all
+live_from s false parts all = tt
+
+frag_from : (names : List NameParts) (style : StyleValue) (left : ℕ) (s : Source) (request : Request) (place : Place) →
+    ArePartsFrom s (frag names style left request place s)
+frag_from names style zero s request place = (tt, tt)
+frag_from names style (suc left) s request place =
+    live_from s (is_live s request) (answer_parts names style request place s)
+    (choice_from names style s request place (chosen style (λ number. fits names style s number request.node) request))
+
+whole_from : (names : List NameParts) (style : StyleValue) (left : ℕ) (s : Source) (request : Request) (place : Place) →
+    AreFrom s (whole names style left request place s)
 unfolding whole
-whole_from names rules zero s request = (tt, tt)
-whole_from names rules (suc left) s request =
-    filled_from s (λ (asked : Asked). whole names rules left s asked.request) (λ asked. whole_from names rules left s asked.request) (instance_parts names rules request s)
-    (node_from names rules s request request.node)
+whole_from names style zero s request place =
+    filled_from s (λ (asked : Asked). []) (λ asked. tt) (frag names style zero request place s)
+    (frag_from names style zero s request place)
+whole_from names style (suc left) s request place =
+    filled_from s (λ (asked : Asked). whole names style left asked.request asked.place s)
+    (λ asked. whole_from names style left s asked.request asked.place)
+    (frag names style (suc left) request place s) (frag_from names style (suc left) s request place)
 
-pub batch_from : (names : List NameParts) (rules : List Rule) (s : Source) → AreFrom s (batch names rules s)
+pub batch_from : (names : List NameParts) (style : StyleValue) (s : Source) → AreFrom s (batch names style s)
 unfolding batch
-batch_from names rules s = whole_from names rules 200 s (apply_to 0)
+batch_from names style s = whole_from names style 200 s root_request (place_at 1 1)
 
 -- the groups of a result
 abbrev IsFromRun : Source → ShownRun → Type 0

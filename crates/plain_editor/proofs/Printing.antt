@@ -10,7 +10,7 @@ use Rattle.source_tree.specs.Places.{IsPlaceOf, is_there, moved_through}
 use Rattle.source_tree.specs.Printing.{IsPrintable}
 use Rattle.source_tree.proofs.PrintedBack.{stays_printable}
 use Rattle.source_model.specs.Proper.{IsProper}
-use Rattle.style_sheet.specs.declared.style.Rule.{Rule as TemplateRule}
+use Rattle.style_sheet.specs.Sheet.{StyleValue}
 use Rattle.plain_editor.specs.Stops.{Stop}
 use Rattle.plain_editor.specs.Commands.{Command, command_of}
 use Rattle.plain_editor.specs.Commands as command
@@ -56,15 +56,15 @@ told_prints : (names : List NameParts) (editor : Editor) (caret : Option Caret) 
 told_prints names editor None old = old
 told_prints names editor (Some caret) old = old
 
-obeyed_prints : (rules : List TemplateRule) (names : List NameParts) (editor : Editor) (line : Command) → IsSaid line → IsSound names editor → IsPrintable names editor.source →
-    Prints names (obeyed rules editor line)
-obeyed_prints rules names editor command.Show is sound old = old
-obeyed_prints rules names editor (command.At page line column) is sound old = put_prints names editor page line column editor.stops old
-obeyed_prints rules names editor (command.Typing text) is sound old = caret_prints names editor text editor.caret sound.proper sound.caret is old
-obeyed_prints rules names editor command.Where is sound old = told_prints names editor editor.caret old
-obeyed_prints rules names editor command.Tree is sound old = old
-obeyed_prints rules names editor command.NotBuilt is sound old = old
+obeyed_prints : (style : StyleValue) (names : List NameParts) (editor : Editor) (line : Command) → IsSaid line → IsSound names editor → IsPrintable names editor.source →
+    Prints names (obeyed style editor line)
+obeyed_prints style names editor command.Show is sound old = old
+obeyed_prints style names editor (command.At page line column) is sound old = put_prints names editor page line column editor.stops old
+obeyed_prints style names editor (command.Typing text) is sound old = caret_prints names editor text editor.caret sound.proper sound.caret is old
+obeyed_prints style names editor command.Where is sound old = told_prints names editor editor.caret old
+obeyed_prints style names editor command.Tree is sound old = old
+obeyed_prints style names editor command.NotBuilt is sound old = old
 
-pub step_prints : (rules : List TemplateRule) (names : List NameParts) (editor : Editor) (line : List ℕ) → IsSound names editor → IsPrintable names editor.source →
-    IsPrintable names (step rules editor line).0.source
-step_prints rules names editor line sound old = obeyed_prints rules names editor (command_of line) (said line) sound old
+pub step_prints : (style : StyleValue) (names : List NameParts) (editor : Editor) (line : List ℕ) → IsSound names editor → IsPrintable names editor.source →
+    IsPrintable names (step style editor line).0.source
+step_prints style names editor line sound old = obeyed_prints style names editor (command_of line) (said line) sound old

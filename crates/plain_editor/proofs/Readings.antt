@@ -5,7 +5,8 @@ use Rattle.std.specs.List.{AllByRecursion}
 use Rattle.tree_lines.specs.Written.{Written, Attribute, attribute_bytes, written_lines}
 use Rattle.tree_lines.specs.Written as written
 use Rattle.tree_lines.specs.Documents.{IsDocument}
-use Rattle.plain_editor.specs.Sheets.{Sheet, sheet_head, sheet_lines, IsStyle}
+use Rattle.plain_editor.specs.Sheets.{Sheet, sheet_head, sheet_lines, IsStyle, names_of, style_for, start}
+use Rattle.plain_editor.specs.Sections.{Sections, sections_of}
 use Rattle.plain_editor.specs.Input.{IsInput, document_head, script_head}
 
 -- the line begins with `!`
@@ -107,5 +108,19 @@ by_styles one_document (Some x) (Some y) d e s t is_a is_b is_d is_e same =
     let behind = same_behind one_document d e s t is_d is_e lines.1 in
     (same_sheets one_document x y both.0 is_a.written is_b.written lines.0, behind.0, behind.1)
 
-pub one_reading : AreToldByLines → (input : List ℕ) (a b : Option Sheet) (d e : Written) (s t : List (List ℕ)) → IsInput input a d s → IsInput input b e t → IsSame a b d e s t
-one_reading one_document input a b d e s t is other = by_styles one_document a b d e s t is.styled other.styled is.built other.built (sym is.lines ∙ other.lines)
+-- what an input says is told by its stylesheet, its document and its script
+told_by : (sections : Sections) (sheet : Option Sheet) (d : Written) → sections.names ≡ names_of sheet d → sections.style ≡ style_for sheet d → sections.source ≡ start sheet d
+    → sections ≡ sections_of sheet d sections.script
+told_by sections sheet d names style source = λ i. record { names = names i; style = style i; source = source i; script = sections.script }
+
+pub one_reading : AreToldByLines → (input : List ℕ) (a b : Sections) → IsInput input a → IsInput input b → a ≡ b
+one_reading one_document input a b is other =
+    let same = by_styles one_document is.sheet other.sheet is.document other.document a.script b.script is.styled other.styled is.built other.built (sym is.lines ∙ other.lines) in
+    told_by a is.sheet is.document is.names is.style is.source
+    ∙ (λ i. sections_of (same.0 i) (same.1 i) (same.2 i))
+    ∙ sym (told_by b other.sheet other.document other.names other.style other.source)
+
+pub written_once : AreToldByLines → (input : List ℕ) (a b : Sections) (is : IsInput input a) (other : IsInput input b) → (is.sheet ≡ other.sheet) × (is.document ≡ other.document)
+written_once one_document input a b is other =
+    let same = by_styles one_document is.sheet other.sheet is.document other.document a.script b.script is.styled other.styled is.built other.built (sym is.lines ∙ other.lines) in
+    (same.0, same.1)

@@ -12,7 +12,8 @@ use Rattle.tree_lines.specs.Documents.{IsTop}
 use Rattle.source_tree.specs.Begun.{begun}
 use Rattle.plain_editor.specs.Plain.{is_plain}
 use Rattle.plain_editor.specs.Sheets.{Sheet, sheet_lines, IsSheet}
-use Rattle.plain_editor.specs.Input.{document_head, script_head, IsInput}
+use Rattle.plain_editor.specs.Input.{lines_of, document_head, script_head, IsInput}
+use Rattle.plain_editor.specs.Sections.{Sections, sections_of}
 use Rattle.plain_editor.specs.Commands.{show_word}
 use Rattle.plain_editor.specs.Stops.{view_stops}
 use Rattle.plain_editor.specs.Answers.{answers}
@@ -22,34 +23,49 @@ plain_lines : (lines : List (List ℕ)) → list_all is_plain lines ≡ true →
 plain_lines [] all = tt
 plain_lines (line ∷ lines) all = let both = and_parts (is_plain line) (list_all is_plain lines) all in (both.0, plain_lines lines both.1)
 
-pub empty_is_input : IsInput empty_document None empty_doc (show_word ∷ [])
+pub empty_is_input : IsInput empty_document (sections_of None empty_doc (show_word ∷ []))
 unfolding chars is_utf8 lib.Utf8.encode
 empty_is_input = record {
+  sheet = None;
+  document = empty_doc;
   lines = refl;
   styled = tt;
   built = record { top = tt; parted = (tt, tt, tt); faultless = refl };
   plain = plain_lines (written_lines empty_doc) refl;
   short = lit≤ tt;
+  names = refl;
+  style = refl;
+  source = refl;
 }
 
-pub oak_is_input : IsInput one_text None oak_doc (show_word ∷ [])
+pub oak_is_input : IsInput one_text (sections_of None oak_doc (show_word ∷ []))
 unfolding chars is_utf8 lib.Utf8.encode
 oak_is_input = record {
+  sheet = None;
+  document = oak_doc;
   lines = refl;
   styled = tt;
   built = record { top = tt; parted = (tt, tt, tt); faultless = refl };
   plain = plain_lines (written_lines oak_doc) refl;
   short = lit≤ tt;
+  names = refl;
+  style = refl;
+  source = refl;
 }
 
-pub full_is_input : IsInput full_document None full_doc full_script
+pub full_is_input : IsInput full_document (sections_of None full_doc full_script)
 unfolding chars is_utf8 lib.Utf8.encode
 full_is_input = record {
+  sheet = None;
+  document = full_doc;
   lines = refl;
   styled = tt;
   built = record { top = tt; parted = ((refl, (refl, tt)), (tt, tt, tt), tt); faultless = refl };
   plain = plain_lines (written_lines full_doc) refl;
   short = lit≤ tt;
+  names = refl;
+  style = refl;
+  source = refl;
 }
 
 pub block_is_sheet : IsSheet block_sheet
@@ -65,41 +81,46 @@ block_is_sheet = record {
   built = refl;
 }
 
-pub block_is_input : IsInput block_input (Some block_sheet) two_doc block_script
+pub block_is_input : IsInput block_input (sections_of (Some block_sheet) two_doc block_script)
 unfolding chars is_utf8 lib.Utf8.encode
 block_is_input = record {
+  sheet = Some block_sheet;
+  document = two_doc;
   lines = refl;
   styled = block_is_sheet;
   built = record { top = tt; parted = (tt, (tt, tt, (tt, tt, tt)), tt); faultless = refl };
   plain = plain_lines (written_lines two_doc) refl;
   short = lit≤ tt;
+  names = refl;
+  style = refl;
+  source = refl;
 }
 
-pub empty_answered : answers None empty_doc (show_word ∷ []) ≡ plain []
+pub empty_answered : answers (sections_of None empty_doc (show_word ∷ [])) ≡ plain []
 unfolding digits view_stops batch whole begun chars is_utf8 lib.Utf8.encode
 empty_answered = refl
 
-pub oak_answered : answers None oak_doc (show_word ∷ []) ≡ plain oak
+pub oak_answered : answers (sections_of None oak_doc (show_word ∷ [])) ≡ plain oak
 unfolding digits view_stops batch whole begun chars is_utf8 lib.Utf8.encode
 oak_answered = refl
 
-pub at_end_answered : answers None oak_doc types_at_end ≡ typed_at_end
+pub at_end_answered : answers (sections_of None oak_doc types_at_end) ≡ typed_at_end
 unfolding digits view_stops batch whole begun chars is_utf8 lib.Utf8.encode
 at_end_answered = refl
 
-pub into_answered : answers None empty_doc types_into ≡ typed_into
+pub into_answered : answers (sections_of None empty_doc types_into) ≡ typed_into
 unfolding digits view_stops batch whole begun chars is_utf8 lib.Utf8.encode
 into_answered = refl
 
-pub asks_answered : answers None empty_doc asks ≡ told_what_it_asks
+pub asks_answered : answers (sections_of None empty_doc asks) ≡ told_what_it_asks
 unfolding digits view_stops batch whole begun chars is_utf8 lib.Utf8.encode
 asks_answered = refl
 
-pub full_answered : answers None full_doc full_script ≡ full_answers
+pub full_answered : answers (sections_of None full_doc full_script) ≡ full_answers
 unfolding digits view_stops batch whole begun chars is_utf8 lib.Utf8.encode
 full_answered = refl
 
-pub block_answered : answers (Some block_sheet) two_doc block_script ≡ block_answers
+pub block_answered : answers (sections_of (Some block_sheet) two_doc block_script) ≡ block_answers
 unfolding digits view_stops batch whole begun chars is_utf8 lib.Utf8.encode
 block_answered = refl
 
@@ -135,14 +156,26 @@ has_script-behind : (xs ys : List (List ℕ)) → has_script ys ≡ true → has
 has_script-behind [] ys h = h
 has_script-behind (x ∷ xs) ys h = ap (λ b. bytes_eq x script_head || b) (has_script-behind xs ys h) ∙ or_true (bytes_eq x script_head)
 
-pub cut_is_none : (a : Option Sheet) (d : Written) (s : List (List ℕ)) → IsInput cut_off a d s → ⊥
-cut_is_none a d s is =
-    false≢true (ap has_script is.lines ∙ has_script-behind (sheet_lines a) (document_head ∷ (written_lines d ++ (script_head ∷ s))) (has_script-behind (document_head ∷ written_lines d) (script_head ∷ s) refl))
+pub cut_is_none : (sections : Sections) → IsInput cut_off sections → ⊥
+cut_is_none sections is =
+    let behind : List (List ℕ) = document_head ∷ (written_lines is.document ++ (script_head ∷ sections.script)) in
+    false≢true (ap has_script is.lines
+    ∙ has_script-behind (sheet_lines is.sheet) behind (has_script-behind (document_head ∷ written_lines is.document) (script_head ∷ sections.script) refl))
 
-pub outside_is_none : (a : Option Sheet) (d : Written) (s : List (List ℕ)) → IsInput text_outside a d s → ⊥
-outside_is_none None d s is = false≢true (ap second_is_outside is.lines ∙ top_is_outside document_head d (script_head ∷ s) is.built.top)
-outside_is_none (Some sheet) d s is = false≢true (sym (ap (first_is document_head) is.lines))
+-- a text is no first line of a document, and a stylesheet's head is another line than the document's
+outside_none : (sheet : Option Sheet) (d : Written) (s : List (List ℕ)) → IsTop d
+    → lines_of text_outside ≡ sheet_lines sheet ++ (document_head ∷ (written_lines d ++ (script_head ∷ s))) → ⊥
+outside_none None d s top lines = false≢true (ap second_is_outside lines ∙ top_is_outside document_head d (script_head ∷ s) top)
+outside_none (Some sheet) d s top lines = false≢true (sym (ap (first_is document_head) lines))
 
-pub head_is_none : (a : Option Sheet) (d : Written) (s : List (List ℕ)) → IsInput another_head a d s → ⊥
-head_is_none None d s is = false≢true (ap (first_is document_head) is.lines)
-head_is_none (Some sheet) d s is = false≢true (sym (ap (first_is script_head) is.lines))
+pub outside_is_none : (sections : Sections) → IsInput text_outside sections → ⊥
+outside_is_none sections is = outside_none is.sheet is.document sections.script is.built.top is.lines
+
+-- the script's head is neither a stylesheet's nor the document's
+head_none : (sheet : Option Sheet) (d : Written) (s : List (List ℕ))
+    → lines_of another_head ≡ sheet_lines sheet ++ (document_head ∷ (written_lines d ++ (script_head ∷ s))) → ⊥
+head_none None d s lines = false≢true (ap (first_is document_head) lines)
+head_none (Some sheet) d s lines = false≢true (sym (ap (first_is script_head) lines))
+
+pub head_is_none : (sections : Sections) → IsInput another_head sections → ⊥
+head_is_none sections is = head_none is.sheet is.document sections.script is.lines

@@ -14,7 +14,7 @@ use Rattle.result_origin.specs.declared.origin.Origin.{Origin}
 use Rattle.result_origin.specs.declared.origin.Origin.TheVariants as origin
 use Rattle.result_origin.specs.Pages.{shown_bytes}
 use Rattle.result_origin.specs.Parts.{Mark}
-use Rattle.style_sheet.specs.declared.style.Rule.{Rule}
+use Rattle.style_sheet.specs.Sheet.{StyleValue}
 use Rattle.template_run.specs.Batch.{batch}
 use Rattle.simple_pages.specs.Groups.{ShownRun, runs_in, is_root, lines_in}
 use Rattle.simple_pages.specs.Pages.{whole_part, line_at, lines_from, page_lines}
@@ -84,11 +84,11 @@ stops_live : (s : Source) (before bs : List Boundary) → AreLiveBoundaries s bs
 stops_live s before [] all = tt
 stops_live s before (b ∷ bs) all = (all.0, stops_live s (before ++ b ∷ []) bs all.1)
 
-pub view_live : (names : List NameParts) (rules : List Rule) (s : Source) → AllByRecursion (λ (stop : Stop). IsPlaceIf s (place_of stop.origin)) (view_stops names rules s)
+pub view_live : (names : List NameParts) (style : StyleValue) (s : Source) → AllByRecursion (λ (stop : Stop). IsPlaceIf s (place_of stop.origin)) (view_stops names style s)
 unfolding view_stops
-view_live names rules s =
-    let marks : List Mark = batch names rules s in
+view_live names style s =
+    let marks : List Mark = batch names style s in
     stops_live s [] (line_boundaries 1 1 (page_lines names marks) ++ [])
-    (all_both (IsLiveBoundary s) (line_boundaries 1 1 (page_lines names marks)) [] (page_live s (is_root names marks) marks (batch_from names rules s)) tt)
+    (all_both (IsLiveBoundary s) (line_boundaries 1 1 (page_lines names marks)) [] (page_live s (is_root names marks) marks (batch_from names style s)) tt)
 
 pub ruleset all = view_live

@@ -10,7 +10,7 @@ use Rattle.result_origin.specs.declared.origin.Origin.TheVariants as origin
 use Rattle.result_origin.specs.declared.pages.Line.{Line}
 use Rattle.result_origin.specs.Pages.{PartValue, shown_bytes}
 use Rattle.result_origin.specs.Parts.{Mark}
-use Rattle.style_sheet.specs.declared.style.Rule.{Rule}
+use Rattle.style_sheet.specs.Sheet.{StyleValue}
 use Rattle.template_run.specs.Batch.{batch}
 use Rattle.simple_pages.specs.Groups.{ShownRun, runs_in, is_root, lines_in}
 use Rattle.simple_pages.specs.Pages.{whole_part, line_at, lines_from}
@@ -42,7 +42,7 @@ run_whole s text shown (origin.Fixed rule) is e = tt
 run_whole s text shown (origin.Computed rule n) is e = tt
 
 -- what holds of the part that is a whole run, where the run comes from the source, holds of each part of a view's pages
-abbrev OfEachRun : (PartValue → Type 0) → Source → Type 0
+abbrev pub OfEachRun : (PartValue → Type 0) → Source → Type 0
 OfEachRun Holds s = (run : ShownRun) → IsFrom s run.text run.origin → Holds (whole_part run)
 
 of_parts : (Holds : PartValue → Type 0) (s : Source) (runs : List ShownRun) → OfEachRun Holds s → AreRunsFrom s runs → AllByRecursion Holds (map whole_part runs)
@@ -61,13 +61,13 @@ of_page : (Holds : PartValue → Type 0) (s : Source) (b : Bool) (marks : List M
 of_page Holds s true marks one all = of_lines Holds s 0 (lines_in marks) one (lines_from_marks s marks all)
 of_page Holds s false marks one all = (of_parts Holds s (runs_in marks) one (runs_from s marks all), tt)
 
-of_view : (Holds : PartValue → Type 0) (names : List NameParts) (rules : List Rule) (s : Source) → OfEachRun Holds s → OfEachPart Holds (view_pages names rules s)
-of_view Holds names rules s one = (of_page Holds s (is_root names (batch names rules s)) (batch names rules s) one (batch_from names rules s), tt)
+pub of_view : (Holds : PartValue → Type 0) (names : List NameParts) (style : StyleValue) (s : Source) → OfEachRun Holds s → OfEachPart Holds (view_pages names style s)
+of_view Holds names style s one = (of_page Holds s (is_root names (batch names style s)) (batch names style s) one (batch_from names style s), tt)
 
-pub view_seen : (names : List NameParts) (rules : List Rule) (s : Source) → ShowTheirPlaces s (view_pages names rules s)
-view_seen names rules s =
-    of_view (ShowsItsPlace s) names rules s (λ (run : ShownRun) is. run_seen s run.text (shown_bytes (whole_part run)) run.origin is (shown_whole run))
+pub view_seen : (names : List NameParts) (style : StyleValue) (s : Source) → ShowTheirPlaces s (view_pages names style s)
+view_seen names style s =
+    of_view (ShowsItsPlace s) names style s (λ (run : ShownRun) is. run_seen s run.text (shown_bytes (whole_part run)) run.origin is (shown_whole run))
 
-pub view_whole : (names : List NameParts) (rules : List Rule) (s : Source) → ShowWholeTexts s (view_pages names rules s)
-view_whole names rules s =
-    of_view (ShowsItsWholeText s) names rules s (λ (run : ShownRun) is. run_whole s run.text (shown_characters (whole_part run)) run.origin is (reads_whole run.text))
+pub view_whole : (names : List NameParts) (style : StyleValue) (s : Source) → ShowWholeTexts s (view_pages names style s)
+view_whole names style s =
+    of_view (ShowsItsWholeText s) names style s (λ (run : ShownRun) is. run_whole s run.text (shown_characters (whole_part run)) run.origin is (reads_whole run.text))

@@ -15,6 +15,7 @@ use Rattle.source_model.specs.PlainText.{spot_text, node_text, view_text}
 use Rattle.source_tree.specs.Begun.{numbered, begun}
 use Rattle.source_model.proofs.Spots.{if_same, if_other, spot_in-unused}
 use Rattle.source_tree.proofs.Numbering.{uses-outside}
+use Rattle.style_sheet.specs.Sheet.{no_style}
 use Rattle.template_run.specs.Batch.{batch}
 use Rattle.plain_editor.specs.Sheets.{names_of, start}
 use Rattle.plain_editor.specs.Views.{texts_of}
@@ -123,5 +124,5 @@ view_text-start whole d is =
     let w = whole (names_of None d) [] d is in
     view_text-begun (spaces_of d) (given_of (names_of None d) [] d) w.shallow ∙ text_in-given_in (names_of None d) (spaces_of d) [] d
 
-pub texts_of-start : AreWhole → (names : List NameParts) (d : Written) → IsDocument d → texts_of (batch names [] (start None d)) ≡ written_text d
+pub texts_of-start : AreWhole → (names : List NameParts) (d : Written) → IsDocument d → texts_of (batch names no_style (start None d)) ≡ written_text d
 texts_of-start whole names d is = texts_of-batch names (start None d) ∙ view_text-start whole d is

@@ -22,7 +22,7 @@ use Rattle.source_tree.specs.declared.prim.CaretPlace.TheVariants.{Text, Into}
 use Rattle.source_tree.specs.Prims.{applied, MayApply, KeepsProper, HasPlace}
 use Rattle.source_tree.specs.Places.{IsPlaceOf, IsNear, Lasts, is_there, moved, moved_through, moves_of}
 use Rattle.source_tree.proofs.ProperKept.{proper_kept}
-use Rattle.style_sheet.specs.declared.style.Rule.{Rule as TemplateRule}
+use Rattle.style_sheet.specs.Sheet.{StyleValue}
 use Rattle.plain_editor.specs.Stops.{Stop, place_of, view_stops}
 use Rattle.plain_editor.specs.Plain.{is_plain}
 use Rattle.plain_editor.specs.Commands.{Command, at_place, at_parts, read_number, typing, command_of, behind_front, parts_of, show_word, where_word, source_word, at_word, type_word}
@@ -258,16 +258,16 @@ told_sound : (names : List NameParts) (editor : Editor) (caret : Option Caret) �
 told_sound names editor None sound = sound
 told_sound names editor (Some caret) sound = sound
 
-pub obeyed_sound : (rules : List TemplateRule) (names : List NameParts) (editor : Editor) (said_command : Command) → IsSaid said_command → IsSound names editor → IsSound names (obeyed rules editor said_command).0
-obeyed_sound rules names editor command.Show is sound = record { proper = sound.proper; caret = sound.caret; stops = fresh_stops names editor.source (view_stops editor.names rules editor.source) sound.proper (view_live editor.names rules editor.source) }
-obeyed_sound rules names editor (command.At page line column) is sound = put_at_sound names editor page line column editor.stops sound sound.stops
-obeyed_sound rules names editor (command.Typing text) is sound = typed_sound names editor text editor.caret sound sound.caret is.0
-obeyed_sound rules names editor command.Where is sound = told_sound names editor editor.caret sound
-obeyed_sound rules names editor command.Tree is sound = sound
-obeyed_sound rules names editor command.NotBuilt is sound = sound
+pub obeyed_sound : (style : StyleValue) (names : List NameParts) (editor : Editor) (said_command : Command) → IsSaid said_command → IsSound names editor → IsSound names (obeyed style editor said_command).0
+obeyed_sound style names editor command.Show is sound = record { proper = sound.proper; caret = sound.caret; stops = fresh_stops names editor.source (view_stops editor.names style editor.source) sound.proper (view_live editor.names style editor.source) }
+obeyed_sound style names editor (command.At page line column) is sound = put_at_sound names editor page line column editor.stops sound sound.stops
+obeyed_sound style names editor (command.Typing text) is sound = typed_sound names editor text editor.caret sound sound.caret is.0
+obeyed_sound style names editor command.Where is sound = told_sound names editor editor.caret sound
+obeyed_sound style names editor command.Tree is sound = sound
+obeyed_sound style names editor command.NotBuilt is sound = sound
 
-pub step_sound : (rules : List TemplateRule) (names : List NameParts) (editor : Editor) (line : List ℕ) → IsSound names editor → IsSound names (step rules editor line).0
-step_sound rules names editor line sound = obeyed_sound rules names editor (command_of line) (said line) sound
+pub step_sound : (style : StyleValue) (names : List NameParts) (editor : Editor) (line : List ℕ) → IsSound names editor → IsSound names (step style editor line).0
+step_sound style names editor line sound = obeyed_sound style names editor (command_of line) (said line) sound
 
 pub opened_sound : (names : List NameParts) (s : Source) → IsProper names s → IsSound names (opened names s)
 opened_sound names s proper = record { proper = proper; caret = tt; stops = tt }

@@ -6,7 +6,7 @@ use Rattle.source_tree.specs.declared.prim.Caret.{Caret}
 use Rattle.source_tree.specs.declared.prim.CaretPlace.{CaretPlace}
 use Rattle.source_tree.specs.declared.prim.CaretPlace.TheVariants.{Text}
 use Rattle.source_tree.specs.Neighbours.{StandsBetween}
-use Rattle.style_sheet.specs.declared.style.Rule.{Rule as TemplateRule}
+use Rattle.style_sheet.specs.Sheet.{StyleValue}
 use Rattle.result_origin.specs.declared.origin.Origin.{Origin}
 use Rattle.result_origin.specs.declared.pages.Page.{Page}
 use Rattle.plain_editor.specs.Stops.{boundary, place_of, view_stops}
@@ -15,8 +15,8 @@ use Rattle.plain_editor.specs.Boundaries.{StandsOnRight}
 use Rattle.plain_editor.specs.Editor.{Editor}
 
 -- the last show is one of the present source
-abbrev pub IsShown : List TemplateRule → Editor → Type 0
-IsShown rules editor = (editor.stops ≡ Some (view_stops editor.names rules editor.source)) × (editor.since ≡ [])
+abbrev pub IsShown : StyleValue → Editor → Type 0
+IsShown style editor = (editor.stops ≡ Some (view_stops editor.names style editor.source)) × (editor.since ≡ [])
 
 -- the caret stands where it is seen: what stands in that column of the pages comes from its place, and the characters on the right, up
 -- to the end of their part, stand there in the source

@@ -1,5 +1,5 @@
 -- The plain editor: it holds one source, changes it at each accepted keystroke at the place of the caret alone, and at every `show`
--- gives the view of the whole source anew. `rules` are those of the stylesheet, which never change (this project's own).
+-- gives the view of the whole source anew. `style` is what the stylesheet says, which never changes (this project's own).
 use Rattle.std.specs.Prelude.{ℕ, ◌+◌, nat_lt, nat_le, Bool, false, List, [], ◌∷◌, ◌++◌, filter, filter_map, length, Option, Some, None, codes, decimal, encode_utf8_all, if◌then◌else◌, ◌&&◌, ◌==◌}
 use Rattle.std.specs.Option.{option_map}
 use Rattle.serna_kinds.specs.Limits.{text_limit, node_limit, change_limit}
@@ -18,7 +18,7 @@ use Rattle.source_tree.specs.Prims.{applied_all}
 use Rattle.source_tree.specs.Places.{moves_of, moved_through, is_there}
 use Rattle.source_tree.specs.Unnumbered.{document_of}
 use Rattle.tree_lines.specs.Canonical.{canonical_text}
-use Rattle.style_sheet.specs.declared.style.Rule.{Rule as TemplateRule}
+use Rattle.style_sheet.specs.Sheet.{StyleValue}
 use Rattle.result_origin.specs.declared.origin.Origin.{Origin}
 use Rattle.result_origin.specs.declared.origin.Origin.TheVariants as origin
 use Rattle.page_print.specs.Print.{spaced}
@@ -101,9 +101,9 @@ reply_text Done = codes "ok" ++ 10 ∷ []
 reply_text (Refused rule) = codes "refused " ++ (rule_word rule ++ 10 ∷ [])
 
 -- `show`: the view of the present source; its stops are kept
-abbrev pub shown : List TemplateRule → Editor → Editor
-shown rules editor =
-    record { names = editor.names; source = editor.source; revision = editor.revision; caret = editor.caret; stops = Some (view_stops editor.names rules editor.source); since = [] }
+abbrev pub shown : StyleValue → Editor → Editor
+shown style editor =
+    record { names = editor.names; source = editor.source; revision = editor.revision; caret = editor.caret; stops = Some (view_stops editor.names style editor.source); since = [] }
 
 -- the editor with another caret
 abbrev pub with_caret : Editor → CaretPlace → ℕ → Editor
@@ -212,19 +212,19 @@ told editor None = (editor, Refused NoCaret)
 told editor (Some caret) = (editor, Told caret.place (standing caret editor.stops editor.since))
 
 -- what a command makes of the editor, and what it is answered
-abbrev pub obeyed : List TemplateRule → Editor → Command → Editor × Reply
-obeyed rules editor command.Show = (shown rules editor, View (view_text editor.names rules editor.source))
-obeyed rules editor (command.At page line column) = put_at editor page line column editor.stops
-obeyed rules editor (command.Typing text) = typed editor text editor.caret
-obeyed rules editor command.Where = told editor editor.caret
-obeyed rules editor command.Tree = (editor, Lines (canonical_text editor.names editor.source.spaces (document_of editor.source)))
-obeyed rules editor command.NotBuilt = (editor, Refused NotBuilt)
+abbrev pub obeyed : StyleValue → Editor → Command → Editor × Reply
+obeyed style editor command.Show = (shown style editor, View (view_text editor.names style editor.source))
+obeyed style editor (command.At page line column) = put_at editor page line column editor.stops
+obeyed style editor (command.Typing text) = typed editor text editor.caret
+obeyed style editor command.Where = told editor editor.caret
+obeyed style editor command.Tree = (editor, Lines (canonical_text editor.names editor.source.spaces (document_of editor.source)))
+obeyed style editor command.NotBuilt = (editor, Refused NotBuilt)
 
 -- what a command line makes of the editor, and what it is answered
-abbrev pub step : List TemplateRule → Editor → List ℕ → Editor × Reply
-step rules editor line = obeyed rules editor (command_of line)
+abbrev pub step : StyleValue → Editor → List ℕ → Editor × Reply
+step style editor line = obeyed style editor (command_of line)
 
 -- what a script is answered, command by command
-abbrev pub replies : List TemplateRule → Editor → List (List ℕ) → List ℕ
-replies rules editor [] = []
-replies rules editor (line ∷ script) = reply_text (step rules editor line).1 ++ replies rules (step rules editor line).0 script
+abbrev pub replies : StyleValue → Editor → List (List ℕ) → List ℕ
+replies style editor [] = []
+replies style editor (line ∷ script) = reply_text (step style editor line).1 ++ replies style (step style editor line).0 script

@@ -5,7 +5,8 @@ use Rattle.std.specs.List.{onto_first, AllByRecursion}
 use Rattle.tree_lines.specs.Written.{Written, written_lines}
 use Rattle.tree_lines.specs.Documents.{IsDocument}
 use Rattle.plain_editor.specs.Plain.{is_plain}
-use Rattle.plain_editor.specs.Sheets.{Sheet, sheet_lines, IsStyle}
+use Rattle.plain_editor.specs.Sheets.{Sheet, sheet_lines, IsStyle, names_of, style_for, start}
+use Rattle.plain_editor.specs.Sections.{Sections}
 
 -- the lines of a text, each ended by LF; the last may lack it
 abbrev pub lines_of : List ℕ → List (List ℕ)
@@ -23,10 +24,16 @@ script_head = codes "!script"
 abbrev pub input_limit : ℕ
 input_limit = 16384
 
--- the input is this stylesheet, if it has one, this document in printable ASCII, and this script, and is not too long
-pub record IsInput (input : List ℕ) (style : Option Sheet) (document : Written) (script : List (List ℕ)) : Type 0 where
-  pub lines : lines_of input ≡ sheet_lines style ++ (document_head ∷ (written_lines document ++ (script_head ∷ script)))
-  pub styled : IsStyle style
+-- the input says this: it is a stylesheet, if it has one, a document in printable ASCII and a script, is not too long, and these are
+-- their readings
+pub record IsInput (input : List ℕ) (sections : Sections) : Type 0 where
+  pub sheet : Option Sheet
+  pub document : Written
+  pub lines : lines_of input ≡ sheet_lines sheet ++ (document_head ∷ (written_lines document ++ (script_head ∷ sections.script)))
+  pub styled : IsStyle sheet
   pub built : IsDocument document
   pub plain : AllByRecursion (λ line. IsTrue (is_plain line)) (written_lines document)
   pub short : length input ≤ input_limit
+  pub names : sections.names ≡ names_of sheet document
+  pub style : sections.style ≡ style_for sheet document
+  pub source : sections.source ≡ start sheet document

@@ -1,5 +1,6 @@
 pub mod Plain
 pub mod Sheets
+pub mod Sections
 pub mod Answers
 pub mod Commands
 pub mod Editor

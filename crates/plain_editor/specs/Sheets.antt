@@ -1,6 +1,6 @@
 -- The stylesheet of an input, the names and the source that an editor starts with (this project's own).
-use Rattle.std.specs.Prelude.{◌≡◌, ℕ, ◌==◌, ◌&&◌, not, Bool, true, false, List, [], ◌∷◌, ◌++◌, IsTrue, Option, Some, None, codes}
-use Rattle.std.specs.List.{list_any, AllByRecursion}
+use Rattle.std.specs.Prelude.{◌≡◌, ℕ, ◌==◌, ◌&&◌, not, Bool, true, false, List, [], ◌∷◌, ◌++◌, length, IsTrue, Option, Some, None, codes}
+use Rattle.std.specs.List.{list_any, range_with_len, AllByRecursion}
 use Rattle.serna_kinds.specs.Names.{NameParts}
 use Rattle.tree_lines.specs.Written.{Written, written_lines}
 use Rattle.tree_lines.specs.Documents.{IsDocument}
@@ -8,8 +8,8 @@ use Rattle.tree_lines.specs.Tokens.{with_names, names_with}
 use Rattle.tree_lines.specs.Given.{Given, spaces_of, given_of}
 use Rattle.source_model.specs.Source.{Source}
 use Rattle.source_tree.specs.Begun.{begun}
-use Rattle.style_sheet.specs.declared.style.Rule.{Rule}
-use Rattle.style_sheet.specs.Styles.{rules_of, matched_names}
+use Rattle.style_sheet.specs.Sheet.{StyleValue, no_style}
+use Rattle.style_sheet.specs.Styles.{style_of, matched_names}
 use Rattle.style_sheet.specs.Built.{is_built}
 use Rattle.plain_editor.specs.Plain.{is_plain}
 
@@ -31,9 +31,13 @@ abbrev pub sheet_lines : Option Sheet → List (List ℕ)
 sheet_lines None = []
 sheet_lines (Some sheet) = sheet_head sheet.name ∷ written_lines sheet.document
 
--- its tree, by a table of names. The numbers of its lines are left out, since no rule shows them.
+-- the numbers of its lines in the input, whose first line is the stylesheet's head
+abbrev pub sheet_numbers : Sheet → List ℕ
+sheet_numbers sheet = range_with_len 2 (length (written_lines sheet.document))
+
+-- its tree, by a table of names
 abbrev pub sheet_tree : List NameParts → Sheet → Given
-sheet_tree names sheet = given_of names [] sheet.document
+sheet_tree names sheet = given_of names (sheet_numbers sheet) sheet.document
 
 -- the table of the names of a stylesheet's document
 abbrev pub own_names : Sheet → List NameParts
@@ -60,13 +64,13 @@ sheet_names (Some sheet) =
 abbrev pub names_of : Option Sheet → Written → List NameParts
 names_of style document = names_with (sheet_names style) (written_lines document)
 
--- the rules; without a stylesheet there are none, and the built-in ones alone hold
-abbrev pub rules_in : List NameParts → Option Sheet → List Rule
-rules_in names None = []
-rules_in names (Some sheet) = rules_of names (spaces_of sheet.document) (sheet_tree names sheet)
+-- what the stylesheet says; without one the built-in rules alone hold
+abbrev pub style_in : List NameParts → Option Sheet → StyleValue
+style_in names None = no_style
+style_in names (Some sheet) = style_of names (spaces_of sheet.document) (sheet_tree names sheet)
 
-abbrev pub rules_for : Option Sheet → Written → List Rule
-rules_for style document = rules_in (names_of style document) style
+abbrev pub style_for : Option Sheet → Written → StyleValue
+style_for style document = style_in (names_of style document) style
 
 -- the source that the editor starts with, which has no numbers of lines
 abbrev pub start : Option Sheet → Written → Source

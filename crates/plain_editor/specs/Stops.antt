@@ -6,7 +6,7 @@ use Rattle.std.specs.List.{flat_map}
 use Rattle.std.specs.Str.{chars}
 use Rattle.serna_kinds.specs.Names.{NameParts}
 use Rattle.source_model.specs.Source.{Source}
-use Rattle.style_sheet.specs.declared.style.Rule.{Rule}
+use Rattle.style_sheet.specs.Sheet.{StyleValue}
 use Rattle.source_tree.specs.declared.prim.CaretPlace.{CaretPlace}
 use Rattle.source_tree.specs.declared.prim.CaretPlace.TheVariants.{Text, Into}
 use Rattle.result_origin.specs.declared.origin.Origin.{Origin}
@@ -97,5 +97,5 @@ stops_behind before (here ∷ more) =
 abbrev pub stops_of : List Page → List Stop
 stops_of pages = stops_behind [] (flat_map page_boundaries pages)
 
-unfoldable pub view_stops : List NameParts → List Rule → Source → List Stop
-view_stops names rules source = stops_of (view_pages names rules source)
+unfoldable pub view_stops : List NameParts → StyleValue → Source → List Stop
+view_stops names style source = stops_of (view_pages names style source)

@@ -1,9 +1,9 @@
--- The view of a source under the rules of a stylesheet: its pages, and how it is printed (this project's own).
+-- The view of a source under a stylesheet: its pages, and how it is printed (this project's own).
 use Rattle.std.specs.Prelude.{ℕ, List, [], ◌∷◌, ◌++◌, map, codes, encode_utf8_all, if◌then◌else◌}
 use Rattle.std.specs.List.{flat_map}
 use Rattle.serna_kinds.specs.Names.{NameParts}
 use Rattle.source_model.specs.Source.{Source}
-use Rattle.style_sheet.specs.declared.style.Rule.{Rule}
+use Rattle.style_sheet.specs.Sheet.{StyleValue}
 use Rattle.result_origin.specs.Parts.{Mark}
 use Rattle.result_origin.specs.declared.pages.Page.{Page}
 use Rattle.template_run.specs.Batch.{batch}
@@ -23,8 +23,8 @@ plain_text marks = codes "plain " ++ (map printed (encode_utf8_all (texts_of mar
 abbrev pub result_text : List NameParts → List Mark → List ℕ
 result_text names marks = if is_root names marks then pages_text (pages_of names marks) else plain_text marks
 
-abbrev pub view_pages : List NameParts → List Rule → Source → List Page
-view_pages names rules source = pages_of names (batch names rules source)
+abbrev pub view_pages : List NameParts → StyleValue → Source → List Page
+view_pages names style source = pages_of names (batch names style source)
 
-abbrev pub view_text : List NameParts → List Rule → Source → List ℕ
-view_text names rules source = result_text names (batch names rules source)
+abbrev pub view_text : List NameParts → StyleValue → Source → List ℕ
+view_text names style source = result_text names (batch names style source)
