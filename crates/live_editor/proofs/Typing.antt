@@ -22,7 +22,7 @@ use Rattle.source_tree.proofs.PlacesKept.{begun_new}
 use Rattle.plain_editor.specs.Editor.{Editor, Reply, Done, Refused, Long, Nodes, Revisions, changed, bytes_of, bytes_at, typed_at}
 use Rattle.plain_editor.specs.Sound.{IsSound}
 use Rattle.plain_editor.proofs.Steps.{typed_text_sound, typed_into_sound}
-use Rattle.live_editor.specs.Held.{IsSomeSound}
+use Rattle.live_editor.specs.Held.{IsSoundEditor}
 
 abbrev Answer : Type 0
 Answer = Editor × Reply
@@ -98,15 +98,15 @@ into_done editor text number occurrence short room few =
     if_false _ _ _ (le-ltb text_limit (bytes_of text) short) ∙ if_false _ _ _ (lt-leb node_limit editor.source.made room) ∙ if_false _ _ _ (lt-leb change_limit editor.revision few)
 
 -- the editor that is left is sound
-pub text_sound : (editor : Editor) (text : List ℕ) (number : NodeName) (at occurrence : ℕ) → IsSomeSound editor → IsPlaceOf editor.source (Text number at) →
-    bytes_at editor.source number.0 + bytes_of text ≤ text_limit → editor.revision < change_limit → IsSomeSound (after_text editor text number at occurrence)
+pub text_sound : (editor : Editor) (text : List ℕ) (number : NodeName) (at occurrence : ℕ) → IsSoundEditor editor → IsPlaceOf editor.source (Text number at) →
+    bytes_at editor.source number.0 + bytes_of text ≤ text_limit → editor.revision < change_limit → IsSoundEditor (after_text editor text number at occurrence)
 text_sound editor text number at occurrence sound is short few =
-    (sound.0, subst (λ (a : Answer). IsSound sound.0 a.0) (text_done editor text number at occurrence short few) (typed_text_sound sound.0 editor text number at occurrence sound.1 is))
+    subst (λ (a : Answer). IsSound editor.names a.0) (text_done editor text number at occurrence short few) (typed_text_sound editor.names editor text number at occurrence sound is)
 
-pub into_sound : (editor : Editor) (text : List ℕ) (number : NodeName) (occurrence : ℕ) → IsSomeSound editor → IsPlaceOf editor.source (Into number) → text ≢ [] →
-    bytes_of text ≤ text_limit → editor.source.made < node_limit → editor.revision < change_limit → IsSomeSound (after_new editor text number occurrence)
+pub into_sound : (editor : Editor) (text : List ℕ) (number : NodeName) (occurrence : ℕ) → IsSoundEditor editor → IsPlaceOf editor.source (Into number) → text ≢ [] →
+    bytes_of text ≤ text_limit → editor.source.made < node_limit → editor.revision < change_limit → IsSoundEditor (after_new editor text number occurrence)
 into_sound editor text number occurrence sound is some short room few =
-    (sound.0, subst (λ (a : Answer). IsSound sound.0 a.0) (into_done editor text number occurrence short room few) (typed_into_sound sound.0 editor text number occurrence sound.1 is some))
+    subst (λ (a : Answer). IsSound editor.names a.0) (into_done editor text number occurrence short room few) (typed_into_sound editor.names editor text number occurrence sound is some)
 
 -- and the prims may be applied
 pub text_may : (editor : Editor) (text : List ℕ) (number : NodeName) (at : ℕ) → IsPlaceOf editor.source (Text number at) → bytes_at editor.source number.0 + bytes_of text ≤ text_limit →
@@ -120,16 +120,16 @@ pub into_may : (editor : Editor) (text : List ℕ) (number : NodeName) → IsPla
 into_may editor text number is short room = ((is.0, is.1, is.2, omega arith), (refl, short, refl), room)
 
 -- the element begins with the new text then
-pub into_begun : (editor : Editor) (text : List ℕ) (number : NodeName) → IsSomeSound editor → IsPlaceOf editor.source (Into number) →
+pub into_begun : (editor : Editor) (text : List ℕ) (number : NodeName) → IsSoundEditor editor → IsPlaceOf editor.source (Into number) →
     begun_in (applied (new_text editor text number) editor.source) (number ∷ []) ≡ record { element = number; text = named (editor.source.made + 1) } ∷ []
-into_begun editor text number sound is = begun_new sound.0 editor.source number (named (editor.source.made + 1)) text sound.1.proper (is.0, is.1, is.2, omega arith) refl
+into_begun editor text number sound is = begun_new editor.names editor.source number (named (editor.source.made + 1)) text sound.proper (is.0, is.1, is.2, omega arith) refl
 
 -- there is room for the characters
-pub room_there : (editor : Editor) (node : NodeName) (at len bytes room : ℕ) (text : List ℕ) → IsSomeSound editor → IsPlaceOf editor.source (Text node at) →
+pub room_there : (editor : Editor) (node : NodeName) (at len bytes room : ℕ) (text : List ℕ) → IsSoundEditor editor → IsPlaceOf editor.source (Text node at) →
     ((t : List ℕ) → text_at editor.source node.0 ≡ Some t → len ≡ bytes_of t) → bytes ≡ bytes_of text → room ≡ text_limit - len → bytes ≤ room →
     bytes_at editor.source node.0 + bytes_of text ≤ text_limit
 room_there editor node at len bytes room text sound is is-len is-bytes is-room within =
     let e : len ≡ bytes_of is.0 = is-len is.0 is.1 in
     let there : bytes_at editor.source node.0 ≡ bytes_of is.0 = bytes_there editor.source node.0 is.0 is.1 in
-    let short : bytes_of is.0 ≤ text_limit = text_short editor.source sound.0 node.0 is.0 sound.1.proper is.1 in
+    let short : bytes_of is.0 ≤ text_limit = text_short editor.source editor.names node.0 is.0 sound.proper is.1 in
     omega (arith, e, there, short, is-bytes, is-room, within)

@@ -22,9 +22,9 @@ use Rattle.live_editor.specs.Shown.{boundaries_of}
 abbrev pub stops_of : List Boundary → List Stop
 stops_of boundaries = stops_behind [] (boundaries_of boundaries)
 
--- whatever table has the names of its elements, the editor is sound
-abbrev pub IsSomeSound : Editor → Type 0
-IsSomeSound editor = (names : List NameParts) × IsSound names editor
+-- the editor is sound, its table having the names of its source
+abbrev pub IsSoundEditor : Editor → Type 0
+IsSoundEditor editor = IsSound editor.names editor
 
 abbrev pub Parts : Type 0
 Parts = List NameParts × (Source × (ℕ × (Option Caret × (Option (List Stop) × List Moves))))

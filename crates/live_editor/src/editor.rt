@@ -14,7 +14,7 @@ ghost use Rattle.plain_editor.specs.Editor.{Editor, Done, Refused, opened, shown
 ghost use Rattle.plain_editor.specs.Editor as editor;
 ghost use Rattle.live_editor.specs.Answers.{rule_of, reply_of, standing_of, shown_at};
 ghost use Rattle.live_editor.specs.Shown.{boundaries_of, boundary_of};
-ghost use Rattle.live_editor.specs.Held.{stops_of, IsSomeSound, IsRefusal, IsHead, taken, is_place, is_at, is_caret_at, is_place_at, refused_at, IsCaretAt};
+ghost use Rattle.live_editor.specs.Held.{stops_of, IsSoundEditor, IsRefusal, IsHead, taken, is_place, is_at, is_caret_at, is_place_at, refused_at, IsCaretAt};
 ghost use Rattle.plain_editor.specs.Commands as command;
 ghost use Rattle.live_editor.specs.declared.editor.TypeFault.TheVariants as fault;
 
@@ -54,7 +54,7 @@ impl Model for Editor {
     ghost use Rattle.std.specs.Option.{option_map};
     ghost use Rattle.source_model.specs.Codes.{source_code};
     ghost use Rattle.plain_editor.specs.Editor.{Editor};
-    ghost use Rattle.live_editor.specs.Held.{editor_code, stops_of, IsSomeSound};
+    ghost use Rattle.live_editor.specs.Held.{editor_code, stops_of, IsSoundEditor};
 
     ghost Value = { Editor };
 
@@ -62,7 +62,7 @@ impl Model for Editor {
 
     ghost view = { λ e. record { names = e.names; source = e.source.source; revision = e.revision; caret = e.caret; stops = option_map (λ boundaries. stops_of boundaries.items) e.view; since = e.since.items } };
 
-    ghost invariant = { λ e. IsSomeSound (record { names = e.names; source = e.source.source; revision = e.revision; caret = e.caret; stops = option_map (λ boundaries. stops_of boundaries.items) e.view; since = e.since.items }) };
+    ghost invariant = { λ e. IsSoundEditor (record { names = e.names; source = e.source.source; revision = e.revision; caret = e.caret; stops = option_map (λ boundaries. stops_of boundaries.items) e.view; since = e.since.items }) };
 }
 
 /// Why a text was not typed.
@@ -82,7 +82,7 @@ impl From<NoMemory> for TypeFault {
 impl Editor {
     /// The editor of a source whose names are numbers of a table, before the first command. Takes no memory.
     pub fn open(alloc: Global, names: NameTable, source: SourceTree) -> Editor
-        requires { IsSomeSound (opened names source.source) }
+        requires { IsSoundEditor (opened names source.source) }
         ensures { result ≡ opened names source.source }
     {
         Editor {
@@ -356,7 +356,7 @@ impl Editor {
     ) -> Result<(), NoMemory>
         requires may { MayApply prim self.old.source }
         requires begun { begun ≡ begun_in (applied prim self.old.source) (flat_map parents_in (prim ∷ [])) }
-        requires sound { IsSomeSound (changed self.old (prim ∷ []) place occurrence) }
+        requires sound { IsSoundEditor (changed self.old (prim ∷ []) place occurrence) }
         requires few { self.old.revision < change_limit }
         ensures ok { OnOk result (self.new ≡ changed self.old (prim ∷ []) place occurrence) }
         ensures kept { OnErr result (self.new ≡ self.old) }

@@ -3,6 +3,7 @@ ghost use Rattle.std.specs.List.{flat_map};
 ghost use Rattle.std.specs.Str.{chars};
 ghost use Rattle.std.specs.String.{string_bytes};
 ghost use Rattle.result_origin.specs.Pages.{shown_bytes};
+ghost use Rattle.source_model.specs.Proper.{IsProper};
 ghost use Rattle.plain_editor.specs.Views.{view_pages, view_text};
 ghost use Rattle.plain_editor.specs.Stops.{run_boundaries, part_boundaries, line_boundaries, page_boundaries};
 ghost use Rattle.plain_editor.specs.Stops as stops;
@@ -41,6 +42,7 @@ pub(crate) fn view_of(
     names: &NameTable,
     source: &SourceTree,
 ) -> Result<View, NoMemory>
+    requires { IsProper names.now source.now.source }
     ensures text { IfOk result (λ view. string_bytes view.text ≡ view_text names.now style.now source.now.source) }
     ensures boundaries { IfOk result (λ view. boundaries_of view.boundaries.items ≡ flat_map page_boundaries (view_pages names.now style.now source.now.source)) }
 {

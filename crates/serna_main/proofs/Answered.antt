@@ -2,10 +2,9 @@
 use Rattle.std.proofs.Common.{◌≡◌, ℕ, ◌≤◌, ◌<◌, Bool, false, IsTrue, List, [], ◌++◌, Option, Some, None, IfSome, inl, inr, length, refl, sym, ap, ◌∙◌, subst, arith, length-append}
 use Rattle.std.proofs.lemmas.Bool.{cases_lt, false≢true}
 use Rattle.std.proofs.lemmas.List.{append-nil}
-use Rattle.tree_lines.specs.Written.{Written}
 use Rattle.serna_outside.specs.Outside.{Appends, Consumes, IsAtEnd, Rose}
 use Rattle.plain_editor.specs.Input.{IsInput, input_limit}
-use Rattle.plain_editor.specs.Sheets.{Sheet}
+use Rattle.plain_editor.specs.Sections.{Sections}
 use Rattle.plain_editor.proofs.Readings.{AreToldByLines, one_reading}
 use Rattle.serna_main.specs.declared.status.Status.{Status}
 use Rattle.serna_main.specs.declared.status.Status.TheVariants as status
@@ -15,25 +14,19 @@ use Rattle.serna_main.specs.Out.{refusal, IsRefused, IsReplied}
 use Rattle.serna_main.specs.Endings.{IsAnswered, IsClosed}
 use Rattle.page_print.proofs.Bytes.{front_all}
 
--- equal readings are answered alike
-same_answers : (a b : Option Sheet) (d e : Written) (s t : List (List ℕ)) → a ≡ b → d ≡ e → s ≡ t → answers b e t ≡ answers a d s
-same_answers a b d e s t style document script =
-    ap (λ c. answers c e t) (sym style) ∙ ap (λ c. answers a c t) (sym document) ∙ ap (answers a d) (sym script)
-
 -- what is a front of the replies to one reading is a front of whatever is out for the input
-pub front_accepted : AreToldByLines → (input : List ℕ) (a : Option Sheet) (d : Written) (s : List (List ℕ)) (h h₁ : Option (List ℕ)) → IsInput input a d s → AppendsFront h h₁ (answers a d s) →
+pub front_accepted : AreToldByLines → (input : List ℕ) (sections : Sections) (h h₁ : Option (List ℕ)) → IsInput input sections → AppendsFront h h₁ (answers sections) →
     (bytes : List ℕ) (other : Status) → IsReplied input bytes other → AppendsFront h h₁ bytes
-front_accepted told input a d s h h₁ is f bytes status.Ok out =
-    let same = one_reading told input a out.0 d out.1 s out.2 is out.3 in
-    subst (AppendsFront h h₁) (sym (out.4 ∙ same_answers a out.0 d out.1 s out.2 same.0 same.1 same.2)) f
-front_accepted told input a d s h h₁ is f bytes status.InputRefused out = absurd (out.0 a d s is)
-front_accepted told input a d s h h₁ is f bytes status.BadWords out = absurd out
-front_accepted told input a d s h h₁ is f bytes status.ReadFault out = absurd out
-front_accepted told input a d s h h₁ is f bytes status.WriteFault out = absurd out
-front_accepted told input a d s h h₁ is f bytes status.NoMemory out = absurd out
+front_accepted told input sections h h₁ is f bytes status.Ok out =
+    subst (AppendsFront h h₁) (sym (out.2 ∙ ap answers (one_reading told input out.0 sections out.1 is))) f
+front_accepted told input sections h h₁ is f bytes status.InputRefused out = absurd (out.0 sections is)
+front_accepted told input sections h h₁ is f bytes status.BadWords out = absurd out
+front_accepted told input sections h h₁ is f bytes status.ReadFault out = absurd out
+front_accepted told input sections h h₁ is f bytes status.WriteFault out = absurd out
+front_accepted told input sections h h₁ is f bytes status.NoMemory out = absurd out
 
 pub front_refused : (input : List ℕ) (h h₁ : Option (List ℕ)) → IsRefused input → AppendsFront h h₁ refusal → (bytes : List ℕ) (other : Status) → IsReplied input bytes other → AppendsFront h h₁ bytes
-front_refused input h h₁ is f bytes status.Ok out = absurd (is out.0 out.1 out.2 out.3)
+front_refused input h h₁ is f bytes status.Ok out = absurd (is out.0 out.1)
 front_refused input h h₁ is f bytes status.InputRefused out = subst (AppendsFront h h₁) (sym out.1) f
 front_refused input h h₁ is f bytes status.BadWords out = absurd out
 front_refused input h h₁ is f bytes status.ReadFault out = absurd out
@@ -41,11 +34,11 @@ front_refused input h h₁ is f bytes status.WriteFault out = absurd out
 front_refused input h h₁ is f bytes status.NoMemory out = absurd out
 
 -- a script that was answered whole, and closed
-pub answered_ok : AreToldByLines → (input : List ℕ) (a : Option Sheet) (d : Written) (s : List (List ℕ)) (h h₁ : Option (List ℕ)) (f f₁ : ℕ) (finished : Type 0) (ended : Status) → IsInput input a d s →
-    Appends h h₁ (answers a d s) → finished → IsClosed status.Ok ended f f₁ → IsAnswered input ended h h₁ f f₁ finished
-answered_ok told input a d s h h₁ f f₁ finished status.Ok is written done closed = record {
-  out = λ w. (answers a d s, (a, d, s, is, refl), written);
-  front = front_accepted told input a d s h h₁ is (front_all h h₁ (answers a d s) written);
+pub answered_ok : AreToldByLines → (input : List ℕ) (sections : Sections) (h h₁ : Option (List ℕ)) (f f₁ : ℕ) (finished : Type 0) (ended : Status) → IsInput input sections →
+    Appends h h₁ (answers sections) → finished → IsClosed status.Ok ended f f₁ → IsAnswered input ended h h₁ f f₁ finished
+answered_ok told input sections h h₁ f f₁ finished status.Ok is written done closed = record {
+  out = λ w. (answers sections, (sections, is, refl), written);
+  front = front_accepted told input sections h h₁ is (front_all h h₁ (answers sections) written);
   closed = λ e. done;
   kept = λ e. closed;
   write_fault = λ e. cc;
@@ -53,20 +46,20 @@ answered_ok told input a d s h h₁ f f₁ finished status.Ok is written done cl
   no_read_fault = λ e. cc;
   no_words = λ e. cc;
 }
-answered_ok told input a d s h h₁ f f₁ finished status.WriteFault is written done closed = record {
+answered_ok told input sections h h₁ f f₁ finished status.WriteFault is written done closed = record {
   out = λ w. absurd w;
-  front = front_accepted told input a d s h h₁ is (front_all h h₁ (answers a d s) written);
+  front = front_accepted told input sections h h₁ is (front_all h h₁ (answers sections) written);
   closed = λ e. done;
   kept = λ e. cc;
   write_fault = λ e. closed;
-  spoiled = λ e f. (answers a d s, (a, d, s, is, refl), written);
+  spoiled = λ e f. (answers sections, (sections, is, refl), written);
   no_read_fault = λ e. cc;
   no_words = λ e. cc;
 }
-answered_ok told input a d s h h₁ f f₁ finished status.BadWords is written done closed = absurd closed
-answered_ok told input a d s h h₁ f f₁ finished status.InputRefused is written done closed = absurd closed
-answered_ok told input a d s h h₁ f f₁ finished status.ReadFault is written done closed = absurd closed
-answered_ok told input a d s h h₁ f f₁ finished status.NoMemory is written done closed = absurd closed
+answered_ok told input sections h h₁ f f₁ finished status.BadWords is written done closed = absurd closed
+answered_ok told input sections h h₁ f f₁ finished status.InputRefused is written done closed = absurd closed
+answered_ok told input sections h h₁ f f₁ finished status.ReadFault is written done closed = absurd closed
+answered_ok told input sections h h₁ f f₁ finished status.NoMemory is written done closed = absurd closed
 
 -- a run that want of memory ended
 pub answered_no_memory : (input : List ℕ) (h h₁ : Option (List ℕ)) (f f₁ : ℕ) (finished : Type 0) (ended : Status) →
@@ -134,8 +127,8 @@ whole_of bytes input rest is at_end = elim (cases_lt input_limit (length bytes))
 
 out_whole : (bytes input : List ℕ) (ended : Status) (h h₁ : Option (List ℕ)) → Whole bytes input → ((b : List ℕ) × IsReplied bytes b ended × Appends h h₁ b) → (b : List ℕ) × IsReplied input b ended × Appends h h₁ b
 out_whole bytes input ended h h₁ (read_whole is) out = (out.0, subst (λ i. IsReplied i out.0 ended) (sym is) out.1, out.2)
-out_whole bytes input status.Ok h h₁ (too_long long longer) out = let short = out.1.3.short in absurd (omega arith)
-out_whole bytes input status.InputRefused h h₁ (too_long long longer) out = (out.0, ((λ a d s is. let short = is.short in absurd (omega arith)), out.1.1), out.2)
+out_whole bytes input status.Ok h h₁ (too_long long longer) out = let short = out.1.1.short in absurd (omega arith)
+out_whole bytes input status.InputRefused h h₁ (too_long long longer) out = (out.0, ((λ sections is. let short = is.short in absurd (omega arith)), out.1.1), out.2)
 out_whole bytes input status.BadWords h h₁ (too_long long longer) out = absurd out.1
 out_whole bytes input status.ReadFault h h₁ (too_long long longer) out = absurd out.1
 out_whole bytes input status.WriteFault h h₁ (too_long long longer) out = absurd out.1
@@ -143,8 +136,8 @@ out_whole bytes input status.NoMemory h h₁ (too_long long longer) out = absurd
 
 front_whole : (bytes input : List ℕ) (h h₁ : Option (List ℕ)) → Whole bytes input → ((b : List ℕ) (other : Status) → IsReplied bytes b other → AppendsFront h h₁ b) → (b : List ℕ) (other : Status) → IsReplied input b other → AppendsFront h h₁ b
 front_whole bytes input h h₁ (read_whole is) front b other out = front b other (subst (λ i. IsReplied i b other) is out)
-front_whole bytes input h h₁ (too_long long longer) front b status.Ok out = let short = out.3.short in absurd (omega arith)
-front_whole bytes input h h₁ (too_long long longer) front b status.InputRefused out = front b status.InputRefused ((λ a d s is. let short = is.short in absurd (omega arith)), out.1)
+front_whole bytes input h h₁ (too_long long longer) front b status.Ok out = let short = out.1.short in absurd (omega arith)
+front_whole bytes input h h₁ (too_long long longer) front b status.InputRefused out = front b status.InputRefused ((λ sections is. let short = is.short in absurd (omega arith)), out.1)
 front_whole bytes input h h₁ (too_long long longer) front b status.BadWords out = absurd out
 front_whole bytes input h h₁ (too_long long longer) front b status.ReadFault out = absurd out
 front_whole bytes input h h₁ (too_long long longer) front b status.WriteFault out = absurd out
@@ -164,4 +157,4 @@ front_of_left (Some input) (Some rest) bytes h h₁ consumed at_end front = fron
 
 -- an input that was answered with Ok was read whole
 pub end_of_left : (left left₁ : Option (List ℕ)) (bytes : List ℕ) (h h₁ : Option (List ℕ)) → (length bytes ≤ input_limit → IsAtEnd left₁) → ((b : List ℕ) × IsReplied bytes b status.Ok × Appends h h₁ b) → IsAtEnd left₁
-end_of_left left left₁ bytes h h₁ at_end out = at_end out.1.3.short
+end_of_left left left₁ bytes h h₁ at_end out = at_end out.1.1.short

@@ -9,6 +9,7 @@ use Rattle.std.specs.Str.{bytes_eq}
 use Rattle.tree_lines.specs.declared.tree.Line.{Line}
 use Rattle.tree_lines.specs.Written.{Written, written_lines}
 use Rattle.plain_editor.specs.Sheets.{Sheet, sheet_head, sheet_lines}
+use Rattle.plain_editor.specs.Sections.{Sections}
 use Rattle.plain_editor.specs.Input.{lines_of, document_head, script_head, input_limit, IsInput}
 use Rattle.plain_editor.proofs.Readings.{is_head, AreNoHeads, written_no_heads, no_style}
 use Rattle.serna_main.specs.declared.opening.Opening.{Opening}
@@ -154,24 +155,34 @@ behind_opening style d s = append_assoc (sheet_lines style) (document_head ∷ w
 
 -- without the script's head, or without an opening before it, nothing is the input
 pub refused_without_script : (bytes : List ℕ) (lines : List Line) → bytes_of lines ≡ lines_of bytes → None ≡ position (λ (line : Line). is_line script_head line.bytes) lines → IsRefused bytes
-refused_without_script bytes lines is none style d s input =
-    stands_nowhere script_head lines none (opening_lines style d) s (is ∙ input.lines ∙ sym (behind_opening style d s))
+refused_without_script bytes lines is none sections input =
+    stands_nowhere script_head lines none (opening_lines input.sheet input.document) sections.script (is ∙ input.lines ∙ sym (behind_opening input.sheet input.document sections.script))
 
 pub refused_opening : (bytes : List ℕ) (lines : List Line) (k : ℕ) → bytes_of lines ≡ lines_of bytes → Some k ≡ position (λ (line : Line). is_line script_head line.bytes) lines → IsNoOpening (bytes_of (take k lines)) → IsRefused bytes
-refused_opening bytes lines k is at none style d s input =
+refused_opening bytes lines k is at none sections input =
     let cut = cut_at script_head lines k at in
-    let same = one_cut script_head (bytes_of lines) (bytes_of (take k lines)) (bytes_of (drop (k + 1) lines)) cut (opening_lines style d) s (opening_other style d) (is ∙ input.lines ∙ sym (behind_opening style d s)) in
-    none style d input.styled input.built input.plain same.0
+    let same = one_cut script_head (bytes_of lines) (bytes_of (take k lines)) (bytes_of (drop (k + 1) lines)) cut (opening_lines input.sheet input.document) sections.script
+    (opening_other input.sheet input.document) (is ∙ input.lines ∙ sym (behind_opening input.sheet input.document sections.script)) in
+    none input.sheet input.document input.styled input.built input.plain same.0
+
+-- what an opening and the script behind it say
+abbrev sections_behind : Opening → List (List ℕ) → Sections
+sections_behind opening script = record { names = opening.names; style = opening.style; source = opening.source.source; script = script }
 
 -- an opening before the script's head: that is the input
 pub is_input : (bytes : List ℕ) (lines : List Line) (k : ℕ) → bytes_of lines ≡ lines_of bytes → Some k ≡ position (λ (line : Line). is_line script_head line.bytes) lines → length bytes ≤ input_limit →
-    (opening : Opening) (o : IsOpening (bytes_of (take k lines)) opening) → IsInput bytes o.style o.document (bytes_of (drop (k + 1) lines))
+    (opening : Opening) (o : IsOpening (bytes_of (take k lines)) opening) → IsInput bytes (sections_behind opening (bytes_of (drop (k + 1) lines)))
 is_input bytes lines k is at short opening o =
     let cut = cut_at script_head lines k at in
     record {
+      sheet = o.style;
+      document = o.document;
       lines = sym is ∙ cut.whole ∙ ap (λ xs. xs ++ (script_head ∷ bytes_of (drop (k + 1) lines))) o.spelled ∙ behind_opening o.style o.document (bytes_of (drop (k + 1) lines));
       styled = o.styled;
       built = o.built;
       plain = o.plain;
       short = short;
+      names = o.table;
+      style = o.compiled;
+      source = o.begins;
     }

@@ -16,17 +16,17 @@ use Rattle.source_model.specs.Source.{Source}
 use Rattle.source_model.specs.Proper.{IsProper}
 use Rattle.source_tree.specs.Begun.{begun}
 use Rattle.source_tree.specs.Seen.{SeenTree}
-use Rattle.style_sheet.specs.declared.style.Rule.{Rule}
+use Rattle.style_sheet.specs.Sheet.{StyleValue, no_style}
 use Rattle.style_sheet.specs.declared.reading.Module.{Module}
-use Rattle.style_sheet.specs.Modules.{AreBuilt, AreRules, HasMatched}
-use Rattle.style_sheet.specs.Styles.{rules_of, matched_names}
+use Rattle.style_sheet.specs.Modules.{AreBuilt, IsStyle, HasMatched}
+use Rattle.style_sheet.specs.Styles.{style_of, matched_names}
 use Rattle.style_sheet.specs.Built.{is_built}
-use Rattle.plain_editor.specs.Sheets.{Sheet, is_sheet_name, sheet_head, sheet_lines, own_names, names_of, rules_in}
+use Rattle.plain_editor.specs.Sheets.{Sheet, is_sheet_name, sheet_head, sheet_lines, sheet_numbers, sheet_tree, own_names, names_of, style_in}
 use Rattle.plain_editor.specs.Plain.{is_plain}
 use Rattle.plain_editor.specs.Input.{document_head}
 use Rattle.serna_main.specs.Sections.{IsRead, IsNoDocument, IsStyled, IsNoStyle, IsNoStyleHead, Begins, IsOpening, IsNoOpening}
 use Rattle.serna_main.proofs.Replies.{bytes_of}
-use Rattle.serna_main.proofs.Lineless.{built_lineless, rules_lineless, matched_lineless, begun_lineless}
+use Rattle.serna_main.proofs.Lineless.{built_lineless, style_lineless, matched_lineless, begun_lineless}
 use Rattle.serna_main.proofs.Cuts.{IsCut, is_line, one_cut, cut_at, stands_nowhere, sheet_other}
 
 -- a tree is told by its items
@@ -77,7 +77,7 @@ plain_name [] e = absurd (true≢false (sym e))
 plain_name (x ∷ xs) e = (and_parts (is_plain (x ∷ xs)) (not (list_any (λ c. c == 32) (x ∷ xs))) e).0
 
 -- no lines are those of no stylesheet
-pub styled_by_none : IsStyled [] [] []
+pub styled_by_none : IsStyled [] [] no_style
 styled_by_none = record { style = None; styled = tt; spelled = refl; table = refl; read = λ later grown. refl }
 
 -- lines whose first is no head are no stylesheet, and neither are those whose rest is no document
@@ -99,14 +99,14 @@ not_built name lines old names m empty read other (Some sheet) styled e =
     other (λ tree is.
     let same : tree ≡ given_of names read.numbers sheet.document =
     one_tree tree (given_of names read.numbers sheet.document) (sym is ∙ read.items names (Grows-refl names) sheet.document styled.written rest) in
-    ap (is_built names m.tree.spaces) same ∙ built_lineless names m.tree.spaces read.numbers sheet.document
-    ∙ ap (λ s. is_built names s (given_of names [] sheet.document)) (read.spaces sheet.document rest)
-    ∙ ap (λ n. is_built n (spaces_of sheet.document) (given_of n [] sheet.document)) (sym own) ∙ styled.built)
+    ap (is_built names m.tree.spaces) same ∙ built_lineless names m.tree.spaces read.numbers (sheet_numbers sheet) sheet.document
+    ∙ ap (λ s. is_built names s (sheet_tree names sheet)) (read.spaces sheet.document rest)
+    ∙ ap (λ n. is_built n (spaces_of sheet.document) (sheet_tree n sheet)) (sym own) ∙ styled.built)
 
 -- a document that was compiled is a stylesheet
-pub styled_by : (name : List ℕ) (lines : List (List ℕ)) (old names new : List NameParts) (rules : List Rule) (m : Module) → IsTrue (is_sheet_name name) → old ≡ [] → IsRead lines old names m.tree → AreBuilt names (m ∷ []) →
-    ((table : List NameParts) → Grows new table → AreRules table (m ∷ []) rules) → HasMatched names (m ∷ []) new → Grows names new → IsStyled (sheet_head name ∷ lines) new rules
-styled_by name lines old names new rules m good empty read built said matched grown =
+pub styled_by : (name : List ℕ) (lines : List (List ℕ)) (old names new : List NameParts) (said : StyleValue) (m : Module) → IsTrue (is_sheet_name name) → old ≡ [] → IsRead lines old names m.tree → AreBuilt names (m ∷ []) →
+    ((table : List NameParts) → Grows new table → IsStyle table (m ∷ []) said) → HasMatched names (m ∷ []) new → Grows names new → IsStyled (sheet_head name ∷ lines) new said
+styled_by name lines old names new said m good empty read built is matched grown =
     let d : Written = read.document in
     let sheet : Sheet = record { name = name; document = d } in
     let own : names ≡ own_names sheet = read.table ∙ ap (λ o. names_with o (written_lines d)) empty in
@@ -118,14 +118,15 @@ styled_by name lines old names new rules m good empty read built said matched gr
         named = good;
         written = read.built;
         plain = read.plain;
-        built = ap (λ n. is_built n (spaces_of d) (given_of n [] d)) (sym own) ∙ ap (λ s. is_built names s (given_of names [] d)) (sym spaces)
-            ∙ sym (built_lineless names m.tree.spaces read.numbers d) ∙ built (given_of names read.numbers d) (items names (Grows-refl names));
+        built = ap (λ n. is_built n (spaces_of d) (sheet_tree n sheet)) (sym own) ∙ ap (λ s. is_built names s (sheet_tree names sheet)) (sym spaces)
+            ∙ sym (built_lineless names m.tree.spaces read.numbers (sheet_numbers sheet) d) ∙ built (given_of names read.numbers d) (items names (Grows-refl names));
       };
       spelled = ap (λ ls. sheet_head name ∷ ls) read.spelled;
       table = matched (given_of names read.numbers d) (items names (Grows-refl names)) ∙ ap (λ s. with_names names (matched_names s (given_of names read.numbers d))) spaces
-          ∙ ap (with_names names) (matched_lineless names (spaces_of d) read.numbers d) ∙ ap (λ n. with_names n (matched_names (spaces_of d) (given_of n [] d))) own;
-      read = λ later g. said later g (given_of later read.numbers d) (items later (Grows-trans names new later grown g)) ∙ ap (λ s. rules_of later s (given_of later read.numbers d)) spaces
-          ∙ rules_lineless later (spaces_of d) read.numbers d;
+          ∙ ap (with_names names) (matched_lineless names (spaces_of d) read.numbers (sheet_numbers sheet) d)
+          ∙ ap (λ n. with_names n (matched_names (spaces_of d) (sheet_tree n sheet))) own;
+      read = λ later g. is later g (given_of later read.numbers d) (items later (Grows-trans names new later grown g)) ∙ ap (λ s. style_of later s (given_of later read.numbers d)) spaces
+          ∙ style_lineless later (spaces_of d) read.numbers (sheet_numbers sheet) d;
     }
 
 -- the source that a document's tree begins
@@ -145,9 +146,9 @@ begins_by lines old new tree source read is proper = record {
 }
 
 -- a stylesheet or none before the document's head, and a document behind it
-pub is_opening : (lines before behind : List (List ℕ)) (names new : List NameParts) (rules : List Rule) (tree : SeenTree) → IsCut document_head lines before behind → IsStyled before names rules → Begins behind names new tree.source →
-    IsOpening lines (record { names = new; style = rules; source = tree })
-is_opening lines before behind names new rules tree cut s b =
+pub is_opening : (lines before behind : List (List ℕ)) (names new : List NameParts) (said : StyleValue) (tree : SeenTree) → IsCut document_head lines before behind → IsStyled before names said → Begins behind names new tree.source →
+    IsOpening lines (record { names = new; style = said; source = tree })
+is_opening lines before behind names new said tree cut s b =
     let table : new ≡ names_of s.style b.document = b.table ∙ ap (λ n. names_with n (written_lines b.document)) s.table in
     record {
       style = s.style;
@@ -157,7 +158,7 @@ is_opening lines before behind names new rules tree cut s b =
       plain = b.plain;
       spelled = cut.whole ∙ ap (λ ls. ls ++ (document_head ∷ behind)) s.spelled ∙ ap (λ ls. sheet_lines s.style ++ (document_head ∷ ls)) b.spelled;
       table = table;
-      rules = s.read new b.grows ∙ ap (λ n. rules_in n s.style) table;
+      compiled = s.read new b.grows ∙ ap (λ n. style_in n s.style) table;
       begins = b.begins ∙ ap (λ n. begun (spaces_of b.document) (given_of n [] b.document)) table;
       proper = b.proper;
     }

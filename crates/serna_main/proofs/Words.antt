@@ -65,7 +65,7 @@ complete_at : (input : List ℕ) (ended : Status) (h h₁ : Option (List ℕ)) (
     (ended ≡ status.Ok) ⊎ (ended ≡ status.NoMemory)
 complete_at input status.Ok h h₁ f f₁ k k₁ out words read write accepted calm = inl refl
 complete_at input status.BadWords h h₁ f f₁ k k₁ out words read write accepted calm = absurd (words refl)
-complete_at input status.InputRefused h h₁ f f₁ k k₁ out words read write accepted calm = let refused = out tt in absurd (refused.1.0 accepted.0 accepted.1 accepted.2 accepted.3)
+complete_at input status.InputRefused h h₁ f f₁ k k₁ out words read write accepted calm = let refused = out tt in absurd (refused.1.0 accepted.0 accepted.1)
 complete_at input status.ReadFault h h₁ f f₁ k k₁ out words read write accepted calm = absurd (calm.0 (read refl))
 complete_at input status.WriteFault h h₁ f f₁ k k₁ out words read write accepted calm = absurd (calm.1 (write refl))
 complete_at input status.NoMemory h h₁ f f₁ k k₁ out words read write accepted calm = inr refl

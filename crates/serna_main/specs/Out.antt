@@ -1,9 +1,8 @@
 -- To be believed: what the program writes for its words and an input, and the status that it ends with (this project's own). The
 -- clauses of the top call stand on this file; what only the crate's own functions tell one another stands in `Endings`.
-use Rattle.std.specs.Prelude.{◌≡◌, ◌≢◌, ℕ, List, [], ◌∷◌, ◌++◌, Option, codes}
-use Rattle.tree_lines.specs.Written.{Written}
+use Rattle.std.specs.Prelude.{◌≡◌, ◌≢◌, ℕ, List, [], ◌∷◌, ◌++◌, codes}
 use Rattle.plain_editor.specs.Input.{IsInput}
-use Rattle.plain_editor.specs.Sheets.{Sheet}
+use Rattle.plain_editor.specs.Sections.{Sections}
 use Rattle.plain_editor.specs.Answers.{answers}
 use Rattle.serna_main.specs.declared.status.Status.{Status}
 use Rattle.serna_main.specs.declared.status.Status.TheVariants as status
@@ -16,18 +15,17 @@ refusal = codes "input refused 1 NotBuilt" ++ (10 ∷ [])
 abbrev pub words_refusal : List ℕ
 words_refusal = codes "words refused" ++ (10 ∷ [])
 
--- the input is a stylesheet or none, a document and a script, of the built form
+-- the input says something: it is a stylesheet or none, a document and a script, of the built form
 abbrev pub IsAccepted : List ℕ → Type 0
-IsAccepted input = (style : Option Sheet) × (document : Written) × (script : List (List ℕ)) × IsInput input style document script
+IsAccepted input = (sections : Sections) × IsInput input sections
 
--- no stylesheet, document and script are this input
+-- the input says nothing
 abbrev pub IsRefused : List ℕ → Type 0
-IsRefused input = (style : Option Sheet) (document : Written) (script : List (List ℕ)) → IsInput input style document script → ⊥
+IsRefused input = (sections : Sections) → IsInput input sections → ⊥
 
 -- an accepted input is answered command by command, and every other one is refused
 abbrev pub IsReplied : List ℕ → List ℕ → Status → Type 0
-IsReplied input bytes status.Ok =
-    (style : Option Sheet) × (document : Written) × (script : List (List ℕ)) × IsInput input style document script × (bytes ≡ answers style document script)
+IsReplied input bytes status.Ok = (sections : Sections) × IsInput input sections × (bytes ≡ answers sections)
 IsReplied input bytes status.InputRefused = IsRefused input × (bytes ≡ refusal)
 IsReplied input bytes status.BadWords = ⊥
 IsReplied input bytes status.ReadFault = ⊥

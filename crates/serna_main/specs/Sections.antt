@@ -11,12 +11,13 @@ use Rattle.tree_lines.specs.declared.tree.Line.{Line}
 use Rattle.source_model.specs.Source.{Source}
 use Rattle.source_model.specs.Proper.{IsProper}
 use Rattle.source_tree.specs.Begun.{begun}
-use Rattle.style_sheet.specs.declared.style.Rule.{Rule}
+use Rattle.style_sheet.specs.Sheet.{StyleValue}
 use Rattle.plain_editor.specs.Plain.{is_plain}
 use Rattle.plain_editor.specs.Input.{document_head, IsInput}
-use Rattle.plain_editor.specs.Sheets.{Sheet, is_sheet_name, sheet_head, sheet_lines, sheet_names, IsStyle, names_of, rules_in, rules_for, start}
+use Rattle.plain_editor.specs.Sections.{Sections}
+use Rattle.plain_editor.specs.Sheets.{Sheet, is_sheet_name, sheet_head, sheet_lines, sheet_names, IsStyle, names_of, style_in, style_for, start}
 use Rattle.serna_main.specs.declared.opening.Opening.{Opening}
-use Rattle.serna_main.specs.declared.sections.Sections.{Sections}
+use Rattle.serna_main.specs.declared.sections.Judged.{Judged}
 
 -- each line is in printable ASCII
 abbrev pub ArePlain : List (List ℕ) → Type 0
@@ -39,13 +40,13 @@ pub record IsRead (lines : List (List ℕ)) (old new : List NameParts) (tree : R
 abbrev pub IsNoDocument : List (List ℕ) → Type 0
 IsNoDocument lines = (document : Written) → IsDocument document → ArePlain (written_lines document) → lines ≡ written_lines document → ⊥
 
--- the lines are those of a stylesheet or none, and these are its table of names and, in each table that grows from it, its rules
-pub record IsStyled (lines : List (List ℕ)) (names : List NameParts) (rules : List Rule) : Type 0 where
+-- the lines are those of a stylesheet or none, and these are its table of names and, in each table that grows from it, what it says
+pub record IsStyled (lines : List (List ℕ)) (names : List NameParts) (said : StyleValue) : Type 0 where
   pub style : Option Sheet
   pub styled : IsStyle style
   pub spelled : lines ≡ sheet_lines style
   pub table : names ≡ sheet_names style
-  pub read : (later : List NameParts) → Grows names later → rules ≡ rules_in later style
+  pub read : (later : List NameParts) → Grows names later → said ≡ style_in later style
 
 -- neither a stylesheet nor none has these lines
 abbrev pub IsNoStyle : List (List ℕ) → Type 0
@@ -70,7 +71,7 @@ pub record Begins (lines : List (List ℕ)) (old new : List NameParts) (source :
 abbrev pub opening_lines : Option Sheet → Written → List (List ℕ)
 opening_lines style document = sheet_lines style ++ (document_head ∷ written_lines document)
 
--- the lines are a stylesheet or none and a document, and these are the names, the rules and the source that the editor starts with
+-- the lines are a stylesheet or none and a document, and these are the names, the style and the source that the editor starts with
 pub record IsOpening (lines : List (List ℕ)) (opening : Opening) : Type 0 where
   pub style : Option Sheet
   pub document : Written
@@ -79,7 +80,7 @@ pub record IsOpening (lines : List (List ℕ)) (opening : Opening) : Type 0 wher
   pub plain : ArePlain (written_lines document)
   pub spelled : lines ≡ opening_lines style document
   pub table : opening.names ≡ names_of style document
-  pub rules : opening.style ≡ rules_for style document
+  pub compiled : opening.style ≡ style_for style document
   pub begins : opening.source.source ≡ start style document
   pub proper : IsProper opening.names opening.source.source
 
@@ -88,13 +89,17 @@ abbrev pub IsNoOpening : List (List ℕ) → Type 0
 IsNoOpening lines =
     (style : Option Sheet) (document : Written) → IsStyle style → IsDocument document → ArePlain (written_lines document) → lines ≡ opening_lines style document → ⊥
 
--- the input is a stylesheet or none, a document and a script, and these are the names, the rules and the source that the editor starts with
-pub record IsJudged (input : List ℕ) (sections : Sections) : Type 0 where
-  pub style : Option Sheet
-  pub document : Written
-  pub is-input : IsInput input style document (map (λ (line : Line). line.bytes) (drop sections.first sections.lines.items))
-  pub within : sections.first ≤ length sections.lines.items
-  pub table : sections.names ≡ names_of style document
-  pub rules : sections.style ≡ rules_for style document
-  pub begins : sections.source.source ≡ start style document
-  pub proper : IsProper sections.names sections.source.source
+-- what the code keeps of an input says this
+abbrev pub sections_kept : Judged → Sections
+sections_kept judged = record {
+  names = judged.names;
+  style = judged.style;
+  source = judged.source.source;
+  script = map (λ (line : Line). line.bytes) (drop judged.first judged.lines.items);
+}
+
+-- the input says what the code keeps of it
+pub record IsJudged (input : List ℕ) (judged : Judged) : Type 0 where
+  pub is-input : IsInput input (sections_kept judged)
+  pub within : judged.first ≤ length judged.lines.items
+  pub proper : IsProper judged.names judged.source.source

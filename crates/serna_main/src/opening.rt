@@ -16,8 +16,7 @@ const STYLE_HEAD: &[u8] = b"!style ";
 
 const DOCUMENT_HEAD: &[u8] = b"!document";
 
-/// What an input says before its script: the table of all names, the stylesheet's rules, and the source that the document
-/// begins.
+/// What an input says before its script: the table of all names, the stylesheet, and the source that the document begins.
 #[derive(Debug, Drop)]
 pub(crate) struct Opening {
     pub(crate) names: NameTable,
@@ -54,8 +53,8 @@ pub(crate) fn line_at(lines: &[Line], head: &[u8]) -> Option<usize>
     lines.iter().position(|line| line.bytes.as_slice() == head)
 }
 
-/// The table of names and the rules of the lines before the document's: none, or a stylesheet's head and its lines. None where
-/// they are neither.
+/// The table of names and the stylesheet of the lines before the document's: none, or a stylesheet's head and its lines. None
+/// where they are neither.
 fn style_of(alloc: Global, lines: &[Line]) -> Result<Option<(NameTable, Style)>, NoMemory>
     ensures styled { IfOk result (λ found. IfSome found (λ read. IsStyled (map (λ line. line.bytes) lines.now) read.0 read.1)) }
     ensures none { IfOk result (λ found. IfNone found (IsNoStyle (map (λ line. line.bytes) lines.now))) }
@@ -107,8 +106,7 @@ fn has_space(bytes: &[u8]) -> bool
     bytes.iter().any(|c| *c == b' ')
 }
 
-/// The table of names and the rules of a stylesheet's lines. None where they are no document of the built form in printable
-/// ASCII.
+/// The table of names and the stylesheet of some lines. None where they are no document of the built form in printable ASCII.
 fn compiled(
     alloc: Global,
     name: &str,

@@ -1,7 +1,7 @@
 ghost use Rattle.std.specs.Prelude.{◌≡◌, false, map};
 ghost use Rattle.serna_outside.specs.Outside.{Appends, Rose};
 ghost use Rattle.plain_editor.specs.Editor.{opened, replies};
-ghost use Rattle.live_editor.specs.Held.{IsSomeSound};
+ghost use Rattle.live_editor.specs.Held.{IsSoundEditor};
 ghost use Rattle.page_print.specs.Outside.{AppendsFront};
 ghost use Rattle.serna_main.specs.Endings.{IsRun};
 ghost use Rattle.serna_main.specs.declared.status.Status.TheVariants as status;
@@ -27,7 +27,7 @@ pub(crate) fn run_script<K: Sink>(
     script: &[Line],
     sink: &mut K,
 ) -> Status
-    requires { IsSomeSound (opened names source.source) }
+    requires { IsSoundEditor (opened names source.source) }
     ensures ok { result ≡ status.Ok → Appends (K.held sink.old) (K.held sink.new) (replies style.now (opened names source.source) (map (λ line. line.bytes) script.now)) }
     ensures kept { result ≡ status.Ok → K.faults sink.new ≡ K.faults sink.old }
     ensures front { AppendsFront (K.held sink.old) (K.held sink.new) (replies style.now (opened names source.source) (map (λ line. line.bytes) script.now)) }

@@ -15,10 +15,10 @@ use tree_lines::Line;
 
 const SCRIPT_HEAD: &[u8] = b"!script";
 
-/// An accepted input: the table of the names of its stylesheet and its document, the stylesheet's rules, the source that the
-/// document begins, its lines, and the place of the script's first line.
+/// An accepted input: the table of the names of its stylesheet and its document, the stylesheet, the source that the document
+/// begins, its lines, and the place of the script's first line.
 #[derive(Debug, Drop)]
-pub(crate) struct Sections {
+pub(crate) struct Judged {
     pub(crate) names: NameTable,
     pub(crate) style: Style,
     pub(crate) source: SourceTree,
@@ -27,9 +27,9 @@ pub(crate) struct Sections {
 }
 
 /// What the input says, or None where it is refused.
-pub(crate) fn judge(alloc: Global, bytes: &[u8]) -> Result<Option<Sections>, NoMemory>
-    ensures accepted { IfOk result (λ sections. IfSome sections (IsJudged bytes.now)) }
-    ensures refused { IfOk result (λ sections. IfNone sections (IsRefused bytes.now)) }
+pub(crate) fn judge(alloc: Global, bytes: &[u8]) -> Result<Option<Judged>, NoMemory>
+    ensures accepted { IfOk result (λ judged. IfSome judged (IsJudged bytes.now)) }
+    ensures refused { IfOk result (λ judged. IfNone judged (IsRefused bytes.now)) }
 {
     if bytes.len() > MOST {
         return Ok(None);
@@ -47,7 +47,7 @@ pub(crate) fn judge(alloc: Global, bytes: &[u8]) -> Result<Option<Sections>, NoM
                 style,
                 source,
             },
-        ) => Ok(Some(Sections {
+        ) => Ok(Some(Judged {
             names,
             style,
             source,

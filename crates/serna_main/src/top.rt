@@ -2,7 +2,7 @@ ghost use Rattle.std.specs.Prelude.{◌≡◌, ◌≢◌, ◌≤◌, ◌+◌, �
 ghost use Rattle.plain_editor.specs.Input.{input_limit};
 ghost use Rattle.serna_outside.specs.Outside.{Appends, IsAtEnd, Rose};
 ghost use Rattle.plain_editor.specs.Editor.{opened};
-ghost use Rattle.live_editor.specs.Held.{IsSomeSound};
+ghost use Rattle.live_editor.specs.Held.{IsSoundEditor};
 ghost use Rattle.serna_main.specs.Out.{IsOut, IsEnded, IsAccepted, IsRefused, words_refusal};
 ghost use Rattle.serna_main.specs.Endings.{IsAnswered, IsClosed, spoiled_status};
 ghost use Rattle.serna_main.specs.Sections.{IsJudged};
@@ -13,7 +13,7 @@ ghost use Rattle.serna_main.specs.declared.status.Status.TheVariants as status;
 use crate::Status;
 use crate::read::{ReadError, read_input};
 use crate::run::run_script;
-use crate::sections::{Sections, judge};
+use crate::sections::{Judged, judge};
 use page_print::offer;
 use serna_outside::{Sink, Source};
 use std::alloc::Global;
@@ -121,7 +121,7 @@ fn answer<K: Sink>(alloc: Global, input: &[u8], sink: &mut K) -> Status
     match judge(alloc, input) {
         Err(_) => close(sink, Status::NoMemory),
         Ok(None) => refuse(sink),
-        Ok(Some(sections)) => obey(alloc, sections, sink),
+        Ok(Some(judged)) => obey(alloc, judged, sink),
     }
 }
 
@@ -137,18 +137,18 @@ fn refuse<K: Sink>(sink: &mut K) -> Status
 }
 
 /// Answers the script of an accepted input.
-fn obey<K: Sink>(alloc: Global, sections: Sections, sink: &mut K) -> Status
-    requires within { sections.first ≤ length sections.lines.items }
-    requires sound { IsSomeSound (opened sections.names sections.source.source) }
-    ensures { (input : List ℕ) → IsJudged input sections → IsAnswered input result (K.held sink.old) (K.held sink.new) (K.faults sink.old) (K.faults sink.new) (IsTrue (K.is_finished sink.new)) }
+fn obey<K: Sink>(alloc: Global, judged: Judged, sink: &mut K) -> Status
+    requires within { judged.first ≤ length judged.lines.items }
+    requires sound { IsSoundEditor (opened judged.names judged.source.source) }
+    ensures { (input : List ℕ) → IsJudged input judged → IsAnswered input result (K.held sink.old) (K.held sink.new) (K.faults sink.old) (K.faults sink.new) (IsTrue (K.is_finished sink.new)) }
 {
-    let Sections {
+    let Judged {
         names,
         style,
         source,
         lines,
         first,
-    } = sections;
+    } = judged;
     match run_script(alloc, names, &style, source, &lines[first..], sink) {
         Status::Ok => close(sink, Status::Ok),
         Status::NoMemory => close(sink, Status::NoMemory),

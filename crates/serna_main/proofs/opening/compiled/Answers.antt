@@ -3,7 +3,7 @@ use Rattle.std.specs.Option.{IfSome}
 use Rattle.serna_kinds.specs.Names.{NameParts}
 use Rattle.serna_kinds.proofs.NameLemmas.{Grows-refl}
 use Rattle.style_sheet.specs.declared.reading.Module.{Module}
-use Rattle.style_sheet.specs.Modules.{AreNamedModules, AreBuilt, AreRules, HasMatched}
+use Rattle.style_sheet.specs.Modules.{AreNamedModules, AreBuilt, IsStyle, HasMatched}
 use Rattle.serna_main.specs.Sections.{IsRead}
 use Rattle.serna_main.proofs.Replies.{bytes_of}
 use Rattle.serna_main.proofs.Openings.{styled_by, not_built}
@@ -25,7 +25,7 @@ returns-in-Ok-clause-styled c =
     let one : Module = record { name = c.in_ok-from_text.field-0; tree = c.in-Some.tree } in
     styled_by c.args.name.now (bytes_of c.args.lines.now) old names new c.in-Ok.style one c.requires c.new-names.ensures read
     (subst (AreBuilt names) c.from_ref.ensures.value c.in-Ok.ensures.built)
-    (λ table grown. subst (λ ms. AreRules table ms c.in-Ok.style) c.from_ref.ensures.value (c.in-Ok.ensures.rules table grown))
+    (λ table grown. subst (λ ms. IsStyle table ms c.in-Ok.style) c.from_ref.ensures.value (c.in-Ok.ensures.style table grown))
     (subst (λ ms. HasMatched names ms new) c.from_ref.ensures.value c.in-Ok.ensures.table) c.in-Ok.ensures.grows
 
 pub returns-in-Err-NotBuilt-clause-none : goal.returns-in-Err-NotBuilt-clause-none

@@ -11,7 +11,7 @@ use Rattle.serna_main.proofs.Cuts.{is_line, found_at, refused_without_script, re
 use Rattle.serna_main.proofs.sections.judge.Goals as goal
 
 pub returns-then-bytes-gt-MOST-clause-refused : goal.returns-then-bytes-gt-MOST-clause-refused
-returns-then-bytes-gt-MOST-clause-refused c = λ style document script is.
+returns-then-bytes-gt-MOST-clause-refused c = λ sections is.
     let short = is.short in
     let long = c.if-bytes-gt-MOST.true in
     absurd (omega (arith, short, long))
@@ -47,12 +47,7 @@ returns-in-Some-2-clause-accepted c =
     let found : IsOpening (bytes_of (take c.in-Some.place c.in_ok-lines.lines.items)) c.in-Some-2.field-0 =
     subst (λ ls. IsOpening (bytes_of (take c.in-Some.place ls)) c.in-Some-2.field-0) c.deref.ensures.value opening in
     record {
-      style = found.style;
-      document = found.document;
       is-input = is_input c.args.bytes.now c.in_ok-lines.lines.items c.in-Some.place lines place c.if-bytes-gt-MOST.false c.in-Some-2.field-0 found;
       within = omega (arith, within);
-      table = found.table;
-      rules = found.rules;
-      begins = found.begins;
       proper = found.proper;
     }

@@ -10,8 +10,8 @@ use Rattle.serna_main.proofs.top.answer.Goals as goal
 
 pub obey-requires : goal.obey-requires
 obey-requires g c =
-    let j : IsJudged c.args.input.now c.in-Ok-Some.sections = subst (λ o. IfSome o (IsJudged c.args.input.now)) c.in-Ok-Some.field-0-is c.in-Ok-Some.ensures.accepted in
-    record { within = j.within; sound = (c.in-Ok-Some.sections.names, opened_sound c.in-Ok-Some.sections.names c.in-Ok-Some.sections.source.source j.proper) }
+    let j : IsJudged c.args.input.now c.in-Ok-Some.judged = subst (λ o. IfSome o (IsJudged c.args.input.now)) c.in-Ok-Some.field-0-is c.in-Ok-Some.ensures.accepted in
+    record { within = j.within; sound = opened_sound c.in-Ok-Some.judged.names c.in-Ok-Some.judged.source.source j.proper }
 
 pub returns-in-Err : goal.returns-in-Err
 returns-in-Err g c =

@@ -9,7 +9,7 @@ use Rattle.plain_editor.specs.Commands as command
 use Rattle.plain_editor.specs.Editor.{Editor}
 use Rattle.plain_editor.proofs.Steps.{obeyed_sound}
 use Rattle.live_editor.specs.Shown.{boundaries_of}
-use Rattle.live_editor.specs.Held.{IsSomeSound}
+use Rattle.live_editor.specs.Held.{IsSoundEditor}
 use Rattle.live_editor.proofs.editor.Editor.show.Goals as goal
 
 abbrev with_view : Editor → List stops.Boundary → List Moves → Editor
@@ -18,14 +18,14 @@ with_view now boundaries since = record { names = now.names; source = now.source
 pub returns-clause-state : goal.returns-clause-state
 unfolding view_stops
 returns-clause-state c =
-    let rules = c.args.style.now in
+    let style = c.args.style.now in
     ap (λ (now : Editor). with_view now (boundaries_of c.in_ok-view.view.boundaries.items) c.clear.new.self.items) c.self.view_is
     ∙ ap (λ bs. with_view c.args.self.now bs c.clear.new.self.items)
-    (c.in_ok-view.ensures.boundaries ∙ ap (λ (now : Editor). flat_map page_boundaries (view_pages now.names rules now.source)) c.self.view_is)
-    ∙ ap (λ ps. with_view c.args.self.now (flat_map page_boundaries (view_pages c.args.self.now.names rules c.args.self.now.source)) ps) c.clear.ensures.items
+    (c.in_ok-view.ensures.boundaries ∙ ap (λ (now : Editor). flat_map page_boundaries (view_pages now.names style now.source)) c.self.view_is)
+    ∙ ap (λ ps. with_view c.args.self.now (flat_map page_boundaries (view_pages c.args.self.now.names style c.args.self.now.source)) ps) c.clear.ensures.items
 
 pub invariant_of-self : goal.invariant_of-self
 invariant_of-self c =
     let now : Editor = c.args.self.now in
-    let sound : IsSomeSound now = subst IsSomeSound c.self.view_is c.self.invariant in
-    subst IsSomeSound (sym (returns-clause-state c)) (sound.0, obeyed_sound c.args.style.now sound.0 now command.Show tt sound.1)
+    let sound : IsSoundEditor now = subst IsSoundEditor c.self.view_is c.self.invariant in
+    subst IsSoundEditor (sym (returns-clause-state c)) (obeyed_sound c.args.style.now now.names now command.Show tt sound)
