@@ -1,18 +1,18 @@
 -- The token at the front of a text is as long as any that is spelled there, and Wrong only where none can stand.
-use Rattle.std.proofs.Common.{◌≡◌, ◌<◌, ◌≤◌, ◌+◌, ◌-◌, ◌⊎◌, ◌==◌, ◌&&◌, ◌||◌, ℕ, zero, suc, pred, Bool, true, false, not, cond, nat_lt, IsTrue, List, [], ◌∷◌, ◌++◌, length, take, drop, Option, Some, None, sym, refl, ap, ◌∙◌, subst, inl, inr, append_assoc, append-nil, length-append, codes, arith}
+use Rattle.std.proofs.Common.{◌≡◌, ◌<◌, ◌≤◌, ◌+◌, ◌-◌, ◌⊎◌, ◌==◌, ◌&&◌, ℕ, zero, suc, pred, Bool, true, false, not, cond, nat_lt, IsTrue, List, [], ◌∷◌, ◌++◌, length, take, drop, Option, Some, None, sym, refl, ap, ◌∙◌, subst, inl, inr, append_assoc, length-append, codes, arith}
 use Rattle.std.specs.List.{AllByRecursion, position_or_len}
 use Rattle.std.proofs.Math.Seq.{drop-append_seam, take-append_seam}
 use Rattle.serna_kinds.specs.Blanks.{is_space}
-use Rattle.serna_kinds.specs.Qualified.{is_digit, begins_name, continues_name}
+use Rattle.serna_kinds.specs.Qualified.{is_digit, continues_name}
 use Rattle.xpath_tokens.specs.declared.tokens.Kind.{Kind}
 use Rattle.xpath_tokens.specs.declared.tokens.Kind.TheVariants as kind
 use Rattle.xpath_tokens.specs.declared.tokens.Token.{Token}
-use Rattle.xpath_tokens.specs.Tokens.{run, local_length, qualified, name_length, begins_any, begins_digit, literal, counted, pointed, number, variable, operator_named, operator_or_wrong, name_before, without_spaces, named, word, pair_at, single_at, single_or_wrong, pair_or_single, mark, star, front, wrong, ends_operand, token_at, tokens_from, tokens_of}
+use Rattle.xpath_tokens.specs.Tokens.{run, local_length, qualified, name_length, begins_any, begins_digit, literal, counted, pointed, number, operator_named, operator_or_wrong, name_before, without_spaces, named, word, pair_at, single_at, single_or_wrong, pair_or_single, mark, star, front, wrong, ends_operand, token_at, tokens_from, tokens_of}
 use Rattle.xpath_tokens.specs.Spelling.{AreDigits, IsLocalName, IsName, IsLiteral, IsFraction, IsSpelled, IsLongest, IsNumeral, may_stand, CanStand, AreWrongWhereNoneStands}
 use Rattle.xpath_tokens.proofs.Comparing.{less, not_less, same_number, equal_number}
 use Rattle.xpath_tokens.proofs.Cuts.{is_at}
-use Rattle.xpath_tokens.proofs.Spelled.{Run, run_of, Named, name_of, local_some, front_spelled}
-use Rattle.xpath_tokens.proofs.WordFronts.{run_stops, local_stops, some_local, colon_any, within_word, name_first, digit_first}
+use Rattle.xpath_tokens.proofs.Spelled.{Run, run_of, name_of, local_some, front_spelled}
+use Rattle.xpath_tokens.proofs.WordFronts.{run_stops, local_stops, some_local, colon_any, within_word, name_first, digit_first, before_by}
 
 -- Runs, names and numbers are as long as what they begin with
 
@@ -390,18 +390,7 @@ operator_right s rest k is named_so right longest = ap (λ (t : Kind × ℕ). is
         ∙ right
 
 before_right : (l : List ℕ) → is_wrong (name_before l) ≡ false
-before_right [] = refl
-before_right (b ∷ []) = go (b == 40)
-  where
-    go : (v : Bool) → is_wrong (cond v kind.Callee kind.Name) ≡ false
-    go true = refl
-    go false = refl
-before_right (b ∷ c ∷ l) = go (b == 40) ((b == 58) && (c == 58))
-  where
-    go : (v u : Bool) → is_wrong (cond v kind.Callee (cond u kind.AxisName kind.Name)) ≡ false
-    go true u = refl
-    go false true = refl
-    go false false = refl
+before_right = before_by (λ k. is_wrong k ≡ false) refl refl refl
 
 -- a name where an operand is wanted
 name_right : (behind : Bool) (s rest : List ℕ) → IsName s → not behind ≡ true → IsRight (front behind (s ++ rest))

@@ -4,9 +4,10 @@ use Rattle.std.specs.List.{AllByRecursion}
 use Rattle.std.proofs.lemmas.Bool.Decides.{nat_tests}
 use Rattle.std.proofs.Math.Seq.{drop-append_seam}
 use Rattle.serna_kinds.specs.Qualified.{is_digit, begins_name, continues_name}
+use Rattle.xpath_tokens.specs.declared.tokens.Kind.{Kind}
 use Rattle.xpath_tokens.specs.declared.tokens.Kind.TheVariants as kind
 use Rattle.xpath_tokens.specs.Spelling.{IsLocalName}
-use Rattle.xpath_tokens.specs.Tokens.{run, local_length, name_length, begins_any, begins_digit, begins_number, named, word, variable, literal, number, mark, star, front}
+use Rattle.xpath_tokens.specs.Tokens.{run, local_length, name_length, begins_any, begins_digit, begins_number, named, word, variable, literal, number, mark, star, front, name_before}
 
 -- Runs and names in front of a byte that ends them
 
@@ -74,3 +75,18 @@ pub digit_first : (behind : Bool) (b : ℕ) (rest : List ℕ) → is_digit b ≡
 digit_first behind b rest is =
     ap (λ v. cond v (literal b rest) (cond (begins_number (b ∷ rest)) (number (b ∷ rest)) (cond (b == 36) (variable rest) (cond (begins_name b) (word behind (b ∷ rest)) (cond (b == 42) (star behind, 1) (mark (b ∷ rest))))))) (digit_no_quote b is)
     ∙ ap (λ v. cond (v || ((b == 46) && begins_digit rest)) (number (b ∷ rest)) (cond (b == 36) (variable rest) (cond (begins_name b) (word behind (b ∷ rest)) (cond (b == 42) (star behind, 1) (mark (b ∷ rest)))))) is
+
+-- a name where an operand is wanted is that of a function or node type, of an axis, or no more than a name
+pub before_by : (P : Kind → Type 0) → P kind.Callee → P kind.AxisName → P kind.Name → (l : List ℕ) → P (name_before l)
+before_by P callee axis name [] = name
+before_by P callee axis name (b ∷ []) = go (b == 40)
+  where
+    go : (v : Bool) → P (cond v kind.Callee kind.Name)
+    go true = callee
+    go false = name
+before_by P callee axis name (b ∷ c ∷ l) = go (b == 40) ((b == 58) && (c == 58))
+  where
+    go : (v u : Bool) → P (cond v kind.Callee (cond u kind.AxisName kind.Name))
+    go true u = callee
+    go false true = axis
+    go false false = name

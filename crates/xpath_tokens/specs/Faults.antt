@@ -1,5 +1,5 @@
 -- The faults of an expression or pattern (this project's own rules, 20 to 24), each at the first byte of its token.
-use Rattle.std.specs.Prelude.{ℕ, suc, ◌+◌, ◌-◌, ◌==◌, ◌&&◌, Bool, true, false, if◌then◌else◌, List, [], ◌∷◌, length, take, slice_get, Option, Some, None, is_some, option_map, unwrap_or}
+use Rattle.std.specs.Prelude.{ℕ, suc, ◌+◌, ◌-◌, ◌==◌, ◌&&◌, Bool, true, false, if◌then◌else◌, List, [], ◌∷◌, length, take, slice_get, Option, Some, None, is_some, option_map, unwrap_or, codes}
 use Rattle.std.specs.Map.{lookup}
 use Rattle.std.specs.Str.{bytes_eq}
 use Rattle.serna_kinds.specs.Names.{Space}
@@ -9,6 +9,8 @@ use Rattle.xpath_trees.specs.Functions.{takes}
 use Rattle.xpath_tokens.specs.declared.tokens.Kind.{Kind}
 use Rattle.xpath_tokens.specs.declared.tokens.Kind.TheVariants as kind
 use Rattle.xpath_tokens.specs.declared.tokens.Token.{Token}
+use Rattle.xpath_tokens.specs.declared.faults.ReadAs.{ReadAs}
+use Rattle.xpath_tokens.specs.declared.faults.ReadAs.TheVariants as how
 use Rattle.xpath_tokens.specs.declared.faults.ExprRule.{ExprRule}
 use Rattle.xpath_tokens.specs.declared.faults.ExprRule.TheVariants as rule
 use Rattle.xpath_tokens.specs.Symbols.{written_at, without_dollar, node_types, function_named}
@@ -58,37 +60,42 @@ abbrev pub function_fault : Option Function → List Token → Option ExprRule
 function_fault None behind = Some rule.UnknownFunction
 function_fault (Some f) behind = wrong_arity f (arguments_of behind)
 
+-- the function of that name, where there is one: a pattern has no `current` (XSLT 1.0, section 12.4)
+abbrev pub function_in : ReadAs → List ℕ → Option Function
+function_in how.Expression name = function_named name
+function_in how.Pattern name = if bytes_eq name (codes "current") then None else function_named name
+
 -- a name before `(`, with the tokens behind it
-abbrev pub callee_fault : List ℕ → List Token → Option ExprRule
-callee_fault name behind = if is_some (lookup (bytes_eq name) node_types) then None else function_fault (function_named name) behind
+abbrev pub callee_fault : ReadAs → List ℕ → List Token → Option ExprRule
+callee_fault as_what name behind = if is_some (lookup (bytes_eq name) node_types) then None else function_fault (function_in as_what name) behind
 
 -- a name whose prefix is not bound
 abbrev pub prefix_fault : List Space → List ℕ → Option ExprRule
 prefix_fault spaces name = if is_some (attribute_uri spaces (prefix_of name)) then None else Some rule.UnboundPrefix
 
 -- the fault of a token of this kind that is written so, with the tokens behind it; 20 aside
-abbrev pub fault_at : List Space → Kind → List ℕ → List Token → Option ExprRule
-fault_at spaces kind.Fraction written behind = Some rule.Fraction
-fault_at spaces kind.Within written behind = prefix_fault spaces written
-fault_at spaces kind.Name written behind = prefix_fault spaces written
-fault_at spaces kind.Variable written behind = prefix_fault spaces (without_dollar written)
-fault_at spaces kind.Callee written behind = callee_fault written behind
-fault_at spaces _ written behind = None
+abbrev pub fault_at : ReadAs → List Space → Kind → List ℕ → List Token → Option ExprRule
+fault_at as_what spaces kind.Fraction written behind = Some rule.Fraction
+fault_at as_what spaces kind.Within written behind = prefix_fault spaces written
+fault_at as_what spaces kind.Name written behind = prefix_fault spaces written
+fault_at as_what spaces kind.Variable written behind = prefix_fault spaces (without_dollar written)
+fault_at as_what spaces kind.Callee written behind = callee_fault as_what written behind
+fault_at as_what spaces _ written behind = None
 
 abbrev pub or_later : Option ExprRule → ℕ → Option (ExprRule × ℕ) → Option (ExprRule × ℕ)
 or_later None place later = later
 or_later (Some found) place later = Some (found, place)
 
 -- the first token that has such a fault
-abbrev pub fault_among : List Space → List ℕ → List Token → Option (ExprRule × ℕ)
-fault_among spaces text [] = None
-fault_among spaces text (t ∷ ts) = or_later (fault_at spaces t.kind (written_at text t) ts) t.start (fault_among spaces text ts)
+abbrev pub fault_among : ReadAs → List Space → List ℕ → List Token → Option (ExprRule × ℕ)
+fault_among as_what spaces text [] = None
+fault_among as_what spaces text (t ∷ ts) = or_later (fault_at as_what spaces t.kind (written_at text t) ts) t.start (fault_among as_what spaces text ts)
 
 -- the place of token number k, and the length of the text where there are only k tokens
 abbrev pub place_of : List ℕ → List Token → ℕ → ℕ
 place_of text tokens k = unwrap_or (option_map (λ (t : Token). t.start) (slice_get tokens k)) (length text)
 
--- Where no expression can go on with token number k that is 20, and of the other faults only those count whose tokens stand
+-- Where no expression, or no pattern, can go on with token number k that is 20, and of the other faults only those count whose tokens stand
 -- before it. The first one stands first.
-abbrev pub fault_before : List Space → List ℕ → List Token → ℕ → ExprRule × ℕ
-fault_before spaces text tokens k = unwrap_or (fault_among spaces text (take k tokens)) (rule.Syntax, place_of text tokens k)
+abbrev pub fault_before : ReadAs → List Space → List ℕ → List Token → ℕ → ExprRule × ℕ
+fault_before as_what spaces text tokens k = unwrap_or (fault_among as_what spaces text (take k tokens)) (rule.Syntax, place_of text tokens k)

@@ -2,5 +2,4 @@ pub mod Tokens
 pub mod Symbols
 pub mod Named
 pub mod Faults
-pub mod PatternFaults
 pub mod Spelling

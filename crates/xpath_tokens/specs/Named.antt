@@ -5,12 +5,13 @@ use Rattle.serna_kinds.specs.Names.{NameParts, Space, id_of, with_name}
 use Rattle.xpath_tokens.specs.declared.tokens.Kind.{Kind}
 use Rattle.xpath_tokens.specs.declared.tokens.Kind.TheVariants as kind
 use Rattle.xpath_tokens.specs.declared.tokens.Token.{Token}
-use Rattle.xpath_tokens.specs.Symbols.{name_in, without_dollar, written_at}
+use Rattle.serna_kinds.specs.Qualified.{attribute_name}
+use Rattle.xpath_tokens.specs.Symbols.{without_dollar, written_at}
 
 -- the name of a token of this kind that is written so, where it has one
 abbrev pub names_in : List Space → Kind → List ℕ → List NameParts
-names_in spaces kind.Name name = name_in spaces name ∷ []
-names_in spaces kind.Variable variable = name_in spaces (without_dollar variable) ∷ []
+names_in spaces kind.Name name = attribute_name spaces name ∷ []
+names_in spaces kind.Variable variable = attribute_name spaces (without_dollar variable) ∷ []
 names_in spaces _ written = []
 
 -- the names of tokens, in the tokens' order
@@ -27,8 +28,8 @@ IsStored names parts = slice_get names (id_of names parts).0 ≡ Some parts
 
 -- the table has the name of a token of this kind that is written so, where it has one
 abbrev pub HasName : List Space → List NameParts → Kind → List ℕ → Type 0
-HasName spaces names kind.Name name = IsStored names (name_in spaces name)
-HasName spaces names kind.Variable variable = IsStored names (name_in spaces (without_dollar variable))
+HasName spaces names kind.Name name = IsStored names (attribute_name spaces name)
+HasName spaces names kind.Variable variable = IsStored names (attribute_name spaces (without_dollar variable))
 HasName spaces names _ written = Unit {0}
 
 -- the table has the names of these tokens

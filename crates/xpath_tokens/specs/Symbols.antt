@@ -4,8 +4,8 @@ use Rattle.std.specs.List.{list_all}
 use Rattle.std.specs.Map.{lookup}
 use Rattle.std.specs.Str.{bytes_eq, chars}
 use Rattle.std.specs.Str.Parse.{digits_value}
-use Rattle.serna_kinds.specs.Names.{NameParts, Space, name_parts, id_of}
-use Rattle.serna_kinds.specs.Qualified.{is_digit, parted, prefix_of, local_of, attribute_uri, uri_or_none}
+use Rattle.serna_kinds.specs.Names.{NameParts, Space, id_of}
+use Rattle.serna_kinds.specs.Qualified.{is_digit, parted, prefix_of, attribute_uri, uri_or_none, attribute_name}
 use Rattle.serna_kinds.specs.declared.expressions.Axis.{Axis}
 use Rattle.serna_kinds.specs.declared.expressions.Axis.TheVariants as axis
 use Rattle.serna_kinds.specs.declared.expressions.CompareOp.TheVariants as compare
@@ -34,10 +34,6 @@ written_at text t = take (t.end - t.start) (drop t.start text)
 -- 1.0, sections 3 and 6.2; XPath 1.0, section 2.3). What stands for a prefix that is not bound does not matter: it is a fault.
 abbrev pub uri_in : List Space → List ℕ → List ℕ
 uri_in spaces prefix = uri_or_none (attribute_uri spaces prefix)
-
--- A name with its URI. Like an attribute's, a name without a prefix has none, whatever the default namespace (section 2.3).
-abbrev pub name_in : List Space → List ℕ → NameParts
-name_in spaces name = name_parts (uri_in spaces (prefix_of name)) (local_of name) (prefix_of name)
 
 -- the name of a variable, behind its `$`
 abbrev pub without_dollar : List ℕ → List ℕ
@@ -141,15 +137,16 @@ mark_symbol kind.Fraction = symbol.Atom (expr.Number 0)
 mark_symbol _ = symbol.Wrong
 
 module _ (spaces : List Space) (names : List NameParts) where
-  -- a token of this kind, written so
+  -- A token of this kind, written so. Names get their URIs as attributes do: without a prefix they have none, whatever the default
+  -- namespace (section 2.3).
   abbrev pub symbol_of : Kind → List ℕ → Symbol
   symbol_of kind.Within name = symbol.Test (test.Within (chars (uri_in spaces (prefix_of name))))
-  symbol_of kind.Name name = symbol.Test (test.Named (id_of names (name_in spaces name)))
+  symbol_of kind.Name name = symbol.Test (test.Named (id_of names (attribute_name spaces name)))
   symbol_of kind.Callee name = callee name
   symbol_of kind.AxisName name = axis_named name
   symbol_of kind.Literal literal = symbol.Atom (expr.Text (chars (inside literal)))
   symbol_of kind.Number digits = symbol.Atom (expr.Number (number_value digits))
-  symbol_of kind.Variable variable = symbol.Atom (expr.Variable (id_of names (name_in spaces (without_dollar variable))))
+  symbol_of kind.Variable variable = symbol.Atom (expr.Variable (id_of names (attribute_name spaces (without_dollar variable))))
   symbol_of k written = mark_symbol k
 
   abbrev pub symbols_at : List ℕ → List Token → List Symbol

@@ -1,9 +1,9 @@
-//! The faults of an expression that are none of its grammar.
+//! The faults of an expression or a pattern that are none of its grammar.
 
 ghost use Rattle.std.specs.Prelude.{◌≡◌, ◌≤◌, IfSome, length};
 ghost use Rattle.std.specs.List.{AllByRecursion};
 ghost use Rattle.xpath_tokens.specs.Tokens.{IsCut};
-ghost use Rattle.xpath_tokens.specs.Faults.{opens, closes, is_comma, commas, arguments_behind, arguments_of, function_fault, callee_fault, prefix_fault, fault_at, fault_among};
+ghost use Rattle.xpath_tokens.specs.Faults.{opens, closes, is_comma, commas, arguments_behind, arguments_of, function_fault, function_in, callee_fault, prefix_fault, fault_at, fault_among};
 
 use crate::symbols::written_at;
 use crate::tokens::{Kind, Token};
@@ -24,6 +24,13 @@ pub enum ExprRule {
     Fraction,
     /// Rule 24: a prefix that the document does not declare.
     UnboundPrefix,
+}
+
+/// What a text is read as.
+#[derive(Clone, Copy, Debug, PartialEq, Eq)]
+pub enum ReadAs {
+    Expression,
+    Pattern,
 }
 
 fn opens(kind: Kind) -> bool
@@ -119,14 +126,30 @@ fn function_fault(function: Option<Function>, behind: &[Token]) -> Option<ExprRu
     }
 }
 
+/// The function of that name, where there is one. There is no `current` in a pattern.
+fn function_in(as_what: ReadAs, name: &str) -> Option<Function>
+    ensures { result ≡ function_in as_what name.now }
+{
+    match as_what {
+        ReadAs::Expression => function_named(name),
+        ReadAs::Pattern => {
+            if name == "current" {
+                None
+            } else {
+                function_named(name)
+            }
+        }
+    }
+}
+
 /// A name before `(`, with the tokens behind it.
-pub fn callee_fault(name: &str, behind: &[Token]) -> Option<ExprRule>
-    ensures { result ≡ callee_fault name.now behind.now }
+fn callee_fault(as_what: ReadAs, name: &str, behind: &[Token]) -> Option<ExprRule>
+    ensures { result ≡ callee_fault as_what name.now behind.now }
 {
     if is_node_type(name) {
         None
     } else {
-        function_fault(function_named(name), behind)
+        function_fault(function_in(as_what, name), behind)
     }
 }
 
@@ -141,28 +164,39 @@ fn prefix_fault(spaces: &Spaces, name: &str) -> Option<ExprRule>
 }
 
 /// The fault of a token of this kind that is written so, with the tokens behind it.
-pub fn fault_at(spaces: &Spaces, kind: Kind, written: &str, behind: &[Token]) -> Option<ExprRule>
-    ensures { result ≡ fault_at spaces.now kind written.now behind.now }
+fn fault_at(
+    as_what: ReadAs,
+    spaces: &Spaces,
+    kind: Kind,
+    written: &str,
+    behind: &[Token],
+) -> Option<ExprRule>
+    ensures { result ≡ fault_at as_what spaces.now kind written.now behind.now }
 {
     match kind {
         Kind::Fraction => Some(ExprRule::Fraction),
         Kind::Within => prefix_fault(spaces, written),
         Kind::Name => prefix_fault(spaces, written),
         Kind::Variable => prefix_fault(spaces, without_dollar(written)),
-        Kind::Callee => callee_fault(written, behind),
+        Kind::Callee => callee_fault(as_what, written, behind),
         _ => None,
     }
 }
 
 /// The first of the tokens that has a fault, with its place.
-pub fn fault_among(spaces: &Spaces, text: &str, tokens: &[Token]) -> Option<(ExprRule, usize)>
+pub fn fault_among(
+    as_what: ReadAs,
+    spaces: &Spaces,
+    text: &str,
+    tokens: &[Token],
+) -> Option<(ExprRule, usize)>
     requires { AllByRecursion (IsCut text.now) tokens.now }
-    ensures { result ≡ fault_among spaces.now text.now tokens.now }
+    ensures { result ≡ fault_among as_what spaces.now text.now tokens.now }
 {
     let mut rest = tokens;
     while let Some((token, behind)) = rest.split_first() {
         let written = written_at(text, *token);
-        if let Some(rule) = fault_at(spaces, token.kind, written, behind) {
+        if let Some(rule) = fault_at(as_what, spaces, token.kind, written, behind) {
             return Some((rule, token.start));
         }
         rest = behind;

@@ -4,19 +4,17 @@
 
 mod faults;
 mod laws;
-mod pattern_faults;
 mod stack;
 mod symbol;
 mod symbols;
 mod tokens;
 mod words;
 
-pub use faults::{ExprRule, fault_among};
+pub use faults::{ExprRule, ReadAs, fault_among};
 pub use laws::{tokens_are_longest, tokens_make_up_the_text, wrong_where_none_stands};
-pub use pattern_faults::pattern_fault_among;
 pub use serna_kinds::NoMemory;
 pub use stack::Stack;
 pub use symbol::{Operator, Symbol};
 pub use symbols::symbols_at;
-pub use tokens::{Kind, Token, local_length, tokens_of};
+pub use tokens::{Kind, Token, tokens_of};
 pub use words::uri_in;

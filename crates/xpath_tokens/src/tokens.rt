@@ -123,7 +123,7 @@ fn space_run(text: &[u8]) -> usize
 }
 
 /// The length of the local name at the front, 0 where there is none.
-pub fn local_length(text: &[u8]) -> usize
+fn local_length(text: &[u8]) -> usize
     ensures value { result ≡ local_length text.now }
     ensures within { result ≤ length text.now }
 {

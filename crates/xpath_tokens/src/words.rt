@@ -5,8 +5,8 @@ ghost use Rattle.std.specs.List.{list_all};
 ghost use Rattle.std.specs.Map.{lookup};
 ghost use Rattle.std.specs.Str.{bytes_eq};
 ghost use Rattle.serna_kinds.specs.Names.{NameParts, Grows, id_of, with_name};
-ghost use Rattle.serna_kinds.specs.Qualified.{is_digit, parted};
-ghost use Rattle.xpath_tokens.specs.Symbols.{uri_in, name_in, without_dollar, text_or_none, inside, number_value, node_types, axes, plain_functions, text_functions, function_named, callee, axis_named, mark_symbol, symbol_of};
+ghost use Rattle.serna_kinds.specs.Qualified.{is_digit, parted, attribute_name};
+ghost use Rattle.xpath_tokens.specs.Symbols.{uri_in, without_dollar, text_or_none, inside, number_value, node_types, axes, plain_functions, text_functions, function_named, callee, axis_named, mark_symbol, symbol_of};
 ghost use Rattle.xpath_tokens.specs.Named.{IsStored, HasName, names_in, with_names};
 
 use crate::NoMemory;
@@ -36,9 +36,9 @@ fn intern(
     spaces: &Spaces,
     names: &mut NameTable,
 ) -> Result<NameId, NoMemory>
-    ensures number { IfOk result (λ id. (later : List NameParts) → Grows names.new later → id ≡ id_of later (name_in spaces.now name.now)) }
-    ensures stored { OnOk result ((later : List NameParts) → Grows names.new later → IsStored later (name_in spaces.now name.now)) }
-    ensures names { OnOk result (names.new ≡ with_name names.old (name_in spaces.now name.now)) }
+    ensures number { IfOk result (λ id. (later : List NameParts) → Grows names.new later → id ≡ id_of later (attribute_name spaces.now name.now)) }
+    ensures stored { OnOk result ((later : List NameParts) → Grows names.new later → IsStored later (attribute_name spaces.now name.now)) }
+    ensures names { OnOk result (names.new ≡ with_name names.old (attribute_name spaces.now name.now)) }
     ensures grows { Grows names.old names.new }
 {
     let WrittenName { prefix, local } = WrittenName::parts(name);

@@ -6,7 +6,7 @@ use Rattle.xpath_tokens.proofs.faults.fault_among.Given as goal
 
 abbrev pub invariant-loop-token : goal.invariant-loop-token
 invariant-loop-token l = record {
-  same : fault_among l.spaces l.text l.rest ≡ fault_among l.spaces l.text l.tokens;
+  same : fault_among l.as_what l.spaces l.text l.rest ≡ fault_among l.as_what l.spaces l.text l.tokens;
   cut : AllByRecursion (IsCut l.text) l.rest;
 }
 

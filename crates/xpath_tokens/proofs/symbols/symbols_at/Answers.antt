@@ -1,6 +1,5 @@
-use Rattle.std.proofs.Common.{◌∙◌, List, Result, Ok, Err, OnOk, subst, take}
+use Rattle.std.proofs.Common.{◌∙◌, Result, Ok, Err, OnOk, subst}
 use Rattle.std.proofs.lemmas.List.{take_all}
-use Rattle.serna_kinds.specs.Names.{NameParts}
 use Rattle.serna_kinds.proofs.NameLemmas.{Grows-trans}
 use Rattle.xpath_tokens.specs.Named.{HasNames}
 use Rattle.xpath_tokens.proofs.TokenLists.{symbols_more, named_more, table_more}
