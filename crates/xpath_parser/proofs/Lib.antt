@@ -1,0 +1,7 @@
+pub mod Completeness
+pub mod Endings
+pub mod Outcomes
+pub mod Soundness
+pub mod States
+pub mod Steps
+pub mod Stopping
