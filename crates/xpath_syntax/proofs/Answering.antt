@@ -1,5 +1,5 @@
 -- What the answers of a reader say, for any grammar that gives a list of tokens one tree at most.
-use Rattle.std.proofs.Common.{◌≡◌, ◌<◌, ◌≤◌, ◌-◌, ℕ, zero, suc, List, [], ◌∷◌, ◌++◌, length, take, drop, get_or, Option, Some, None, Result, Ok, Err, MatchResult, IfOk, IfErr, sym, refl, ap, ◌∙◌, subst, inl, inr, append_assoc, append-nil, arith}
+use Rattle.std.proofs.Common.{◌≡◌, ◌<◌, ◌≤◌, ℕ, zero, suc, List, [], ◌∷◌, ◌++◌, length, take, Option, Some, None, Result, Ok, Err, MatchResult, IfOk, IfErr, sym, refl, ap, ◌∙◌, subst, inl, inr, append_assoc, append-nil, arith}
 use Rattle.std.specs.List.{AllByRecursion}
 use Rattle.std.proofs.lemmas.Bool.{cases_lt}
 use Rattle.std.proofs.lemmas.List.{length-map}
@@ -10,9 +10,8 @@ use Rattle.xpath_tokens.specs.declared.faults.ExprRule.{ExprRule}
 use Rattle.xpath_syntax.specs.declared.reader.ExprFault.{ExprFault}
 use Rattle.xpath_syntax.specs.declared.reader.ExprFault.TheVariants as fault
 use Rattle.xpath_tokens.specs.Tokens.{IsCut}
-use Rattle.xpath_tokens.specs.Symbols.{written_at, symbol_of, symbols_at}
-use Rattle.xpath_tokens.specs.Named.{HasName, HasNames}
-use Rattle.xpath_syntax.specs.Stops.{next_depth, IsShallowFrom, IsShallow, CanGoOnBy, IsStopBy}
+use Rattle.xpath_tokens.specs.Symbols.{symbols_at}
+use Rattle.xpath_parser.specs.Stops.{next_depth, IsShallowFrom, IsShallow, CanGoOnBy, IsStopBy}
 use Rattle.xpath_syntax.specs.Reading.{HasReadingBy, HasFaultBy, IsReadBy}
 
 pub cut_front : (text : List ℕ) (k : ℕ) (tokens : List Token) → AllByRecursion (IsCut text) tokens → AllByRecursion (IsCut text) (take k tokens)

@@ -9,6 +9,7 @@ use Rattle.serna_kinds.specs.declared.expressions.NodeTest.{NodeTest}
 use Rattle.xpath_trees.specs.declared.expr.Function.{Function}
 use Rattle.xpath_trees.specs.declared.expr.Function.TheVariants as function
 use Rattle.xpath_tokens.specs.declared.faults.ExprRule.{ExprRule}
+use Rattle.xpath_tokens.specs.declared.faults.ReadAs.TheVariants as how
 use Rattle.xpath_tokens.specs.declared.faults.ExprRule.TheVariants as rule
 use Rattle.xpath_tokens.specs.declared.symbol.Symbol.{Symbol}
 use Rattle.xpath_tokens.specs.declared.symbol.Symbol.TheVariants as symbol
@@ -118,7 +119,7 @@ module _ (spaces : List Space) (names : List NameParts) where
     arguments_same (t ∷ ts) = behind_same ts
 
     -- a token without fault
-    one_given : (k : Kind) (w : List ℕ) (ts : List Token) → fault_at spaces k w ts ≡ None → IsGiven (symbol_of spaces names k w) (symbols_at spaces names text ts)
+    one_given : (k : Kind) (w : List ℕ) (ts : List Token) → fault_at how.Expression spaces k w ts ≡ None → IsGiven (symbol_of spaces names k w) (symbols_at spaces names text ts)
     one_given kind.Callee w ts e = go (lookup (bytes_eq w) node_types) e
       where
         known : (o : Option Function) → function_fault o ts ≡ None → IsGiven (symbol.Callee (unwrap_or o function.Last)) (symbols_at spaces names text ts)
@@ -135,6 +136,6 @@ module _ (spaces : List Space) (names : List NameParts) where
         go (Some a) = tt
     one_given k w ts e = tt
 
-    pub all_given : (ts : List Token) → fault_among spaces text ts ≡ None → AreGiven (symbols_at spaces names text ts)
+    pub all_given : (ts : List Token) → fault_among how.Expression spaces text ts ≡ None → AreGiven (symbols_at spaces names text ts)
     all_given [] e = tt
-    all_given (t ∷ ts) e = let parts = no_later (fault_at spaces t.kind (written_at text t) ts) t.start (fault_among spaces text ts) e in (one_given t.kind (written_at text t) ts parts.0, all_given ts parts.1)
+    all_given (t ∷ ts) e = let parts = no_later (fault_at how.Expression spaces t.kind (written_at text t) ts) t.start (fault_among how.Expression spaces text ts) e in (one_given t.kind (written_at text t) ts parts.0, all_given ts parts.1)

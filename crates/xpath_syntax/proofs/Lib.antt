@@ -1,16 +1,10 @@
 pub mod Answering
-pub mod Completeness
-pub mod Endings
-pub mod Outcomes
 pub mod PatternLawLemmas
 pub mod PatternReads
 pub mod PatternStates
-pub mod Soundness
-pub mod States
-pub mod Steps
-pub mod Stopping
 pub mod PatternReadings
 pub mod Levels
 pub mod Balance
 pub mod Arity
+pub mod Walks
 pub mod FormedTrees

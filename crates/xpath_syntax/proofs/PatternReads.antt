@@ -13,22 +13,22 @@ use Rattle.xpath_syntax.specs.declared.pattern_state.LastStep.{LastStep}
 use Rattle.xpath_syntax.specs.declared.pattern_state.PatternPlace.{PatternPlace}
 use Rattle.xpath_syntax.specs.declared.pattern_state.PatternPlace.TheVariants as place
 use Rattle.xpath_syntax.specs.declared.pattern_state.PatternState.{PatternState}
-use Rattle.xpath_syntax.specs.declared.state.Pending.{Pending}
-use Rattle.xpath_syntax.specs.declared.state.Place.{Place}
-use Rattle.xpath_syntax.specs.declared.state.Place.TheVariants as inner_place
-use Rattle.xpath_syntax.specs.declared.state.State.{State}
+use Rattle.xpath_parser.specs.declared.state.Pending.{Pending}
+use Rattle.xpath_parser.specs.declared.state.Place.{Place}
+use Rattle.xpath_parser.specs.declared.state.Place.TheVariants as inner_place
+use Rattle.xpath_parser.specs.declared.state.State.{State}
 use Rattle.xpath_tokens.specs.declared.symbol.Symbol.{Symbol}
 use Rattle.xpath_tokens.specs.declared.symbol.Symbol.TheVariants as symbol
-use Rattle.xpath_syntax.specs.Trees.{any_descendant}
-use Rattle.xpath_syntax.specs.Grammar.{Part, Stepped, IsAxis, IsTest, bracketed, trees, slash, behind_slash, widened, steps_behind}
-use Rattle.xpath_syntax.specs.Machine.{operand_tree, closed, finished_in, finish_in, end_predicate, after_in, beginning, after}
+use Rattle.xpath_parser.specs.Trees.{any_descendant}
+use Rattle.xpath_parser.specs.Grammar.{Part, Stepped, IsAxis, IsTest, bracketed, trees, slash, behind_slash, widened, steps_behind}
+use Rattle.xpath_parser.specs.Machine.{operand_tree, closed, finished_in, finish_in, end_predicate, after_in, beginning, after}
 use Rattle.xpath_syntax.specs.Patterns.{IsChildOrAttribute, IsPredicate, IsStepPattern, IsRelativePattern, PathPart, IsPathPattern, bar, behind_bar, IsPattern}
-use Rattle.xpath_syntax.specs.Stops.{BeginsBy}
+use Rattle.xpath_parser.specs.Stops.{BeginsBy}
 use Rattle.xpath_syntax.specs.PatternMachine.{from_context, root_alone, with_step, with_descendants, last_step, whole, with_predicate, begin_step, closes, after_predicate, after_path, alternative_at, at, next, is_bar, after_pattern, run_pattern, pattern_beginning, ended_with, finish_pattern}
-use Rattle.xpath_syntax.proofs.Completeness.{reads_expr}
-use Rattle.xpath_syntax.proofs.Endings.{outcome-run, begins}
-use Rattle.xpath_syntax.proofs.Outcomes.{outcome}
-use Rattle.xpath_syntax.proofs.Stopping.{ReadsBy}
+use Rattle.xpath_parser.proofs.Completeness.{reads_expr}
+use Rattle.xpath_parser.proofs.Endings.{outcome-run, begins}
+use Rattle.xpath_parser.proofs.Outcomes.{outcome}
+use Rattle.xpath_parser.specs.Advance.{ReadsBy}
 use Rattle.xpath_syntax.proofs.PatternStates.{AtPlace, Has, has_begun, has_run, has_finished}
 
 -- the pattern that tokens lead to

@@ -13,12 +13,12 @@ use Rattle.xpath_syntax.specs.declared.pattern_state.LastStep.{LastStep}
 use Rattle.xpath_syntax.specs.declared.pattern_state.PatternPlace.{PatternPlace}
 use Rattle.xpath_syntax.specs.declared.pattern_state.PatternPlace.TheVariants as place
 use Rattle.xpath_syntax.specs.declared.pattern_state.PatternState.{PatternState}
-use Rattle.xpath_syntax.specs.declared.state.State.{State}
+use Rattle.xpath_parser.specs.declared.state.State.{State}
 use Rattle.xpath_tokens.specs.declared.symbol.Operator.TheVariants as operator
 use Rattle.xpath_tokens.specs.declared.symbol.Symbol.{Symbol}
 use Rattle.xpath_tokens.specs.declared.symbol.Symbol.TheVariants as symbol
-use Rattle.xpath_syntax.specs.Trees.{step_of, any_descendant}
-use Rattle.xpath_syntax.specs.Machine.{is_open, is_close, is_colons, beginning, after, finish}
+use Rattle.xpath_parser.specs.Trees.{step_of, any_descendant}
+use Rattle.xpath_parser.specs.Machine.{is_open, is_close, is_colons, beginning, after, finish}
 
 -- Paths
 

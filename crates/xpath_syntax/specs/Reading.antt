@@ -6,15 +6,16 @@ use Rattle.xpath_trees.specs.declared.pattern.Pattern.{Pattern}
 use Rattle.xpath_tokens.specs.declared.symbol.Symbol.{Symbol}
 use Rattle.xpath_tokens.specs.declared.tokens.Token.{Token}
 use Rattle.xpath_tokens.specs.declared.faults.ExprRule.{ExprRule}
+use Rattle.xpath_tokens.specs.declared.faults.ReadAs.{ReadAs}
+use Rattle.xpath_tokens.specs.declared.faults.ReadAs.TheVariants as how
 use Rattle.xpath_syntax.specs.declared.reader.ExprFault.{ExprFault}
 use Rattle.xpath_syntax.specs.declared.reader.ExprFault.TheVariants as fault
 use Rattle.xpath_tokens.specs.Tokens.{tokens_of}
 use Rattle.xpath_tokens.specs.Symbols.{symbols_at}
-use Rattle.xpath_syntax.specs.Grammar.{IsExpr}
+use Rattle.xpath_parser.specs.Grammar.{IsExpr}
 use Rattle.xpath_syntax.specs.Patterns.{IsPattern}
-use Rattle.xpath_syntax.specs.Stops.{HasTreeBy, IsStopBy}
+use Rattle.xpath_parser.specs.Stops.{HasTreeBy, IsStopBy}
 use Rattle.xpath_tokens.specs.Faults.{fault_among, fault_before}
-use Rattle.xpath_tokens.specs.PatternFaults.{pattern_fault_among, pattern_fault_before}
 
 -- By a grammar, and by the first of the faults of tokens besides 20
 
@@ -36,13 +37,19 @@ IsReadBy HasReading HasFault names (Ok tree) = (later : List NameParts) → Grow
 IsReadBy HasReading HasFault names (Err (fault.Refused rule place)) = HasFault rule place
 IsReadBy HasReading HasFault names (Err fault.NoMemory) = Unit {0}
 
+-- what reading tokens by a grammar answers, with the table that it leaves
+abbrev pub IsReadAs : {T : Type 0} → (List Symbol → T → Type 0) → ReadAs → List Space → List NameParts → List ℕ → List Token → Result T ExprFault → Type 0
+IsReadAs Is as_what spaces names text tokens =
+    let among = fault_among as_what spaces text tokens in
+    IsReadBy (λ later. HasReadingBy Is among (symbols_at spaces later text tokens)) (HasFaultBy Is among (fault_before as_what spaces text tokens) (symbols_at spaces names text tokens)) names
+
 -- Expressions
 
 abbrev pub HasReading : List Space → List NameParts → List ℕ → List Token → Expr → Type 0
-HasReading spaces names text tokens = HasReadingBy IsExpr (fault_among spaces text tokens) (symbols_at spaces names text tokens)
+HasReading spaces names text tokens = HasReadingBy IsExpr (fault_among how.Expression spaces text tokens) (symbols_at spaces names text tokens)
 
 abbrev pub HasFault : List Space → List NameParts → List ℕ → List Token → ExprRule → ℕ → Type 0
-HasFault spaces names text tokens = HasFaultBy IsExpr (fault_among spaces text tokens) (fault_before spaces text tokens) (symbols_at spaces names text tokens)
+HasFault spaces names text tokens = HasFaultBy IsExpr (fault_among how.Expression spaces text tokens) (fault_before how.Expression spaces text tokens) (symbols_at spaces names text tokens)
 
 -- the text is an expression without fault, and this is its tree, with the numbers that names have in this table
 abbrev pub IsReading : List Space → List NameParts → List ℕ → Expr → Type 0
@@ -52,18 +59,14 @@ IsReading spaces names text tree = HasReading spaces names text (tokens_of text)
 abbrev pub IsFirstFault : List Space → List NameParts → List ℕ → ExprRule → ℕ → Type 0
 IsFirstFault spaces names text rule place = HasFault spaces names text (tokens_of text) rule place
 
--- what reading tokens answers, with the table that it leaves
-abbrev pub IsRead : List Space → List NameParts → List ℕ → List Token → Result Expr ExprFault → Type 0
-IsRead spaces names text tokens = IsReadBy (λ later. HasReading spaces later text tokens) (HasFault spaces names text tokens) names
-
 -- Patterns
 
 abbrev pub HasPatternReading : List Space → List NameParts → List ℕ → List Token → Pattern → Type 0
-HasPatternReading spaces names text tokens = HasReadingBy IsPattern (pattern_fault_among spaces text tokens) (symbols_at spaces names text tokens)
+HasPatternReading spaces names text tokens = HasReadingBy IsPattern (fault_among how.Pattern spaces text tokens) (symbols_at spaces names text tokens)
 
 abbrev pub HasPatternFault : List Space → List NameParts → List ℕ → List Token → ExprRule → ℕ → Type 0
 HasPatternFault spaces names text tokens =
-    HasFaultBy IsPattern (pattern_fault_among spaces text tokens) (pattern_fault_before spaces text tokens) (symbols_at spaces names text tokens)
+    HasFaultBy IsPattern (fault_among how.Pattern spaces text tokens) (fault_before how.Pattern spaces text tokens) (symbols_at spaces names text tokens)
 
 -- the text is a pattern without fault, and this is its tree, with the numbers that names have in this table
 abbrev pub IsPatternReading : List Space → List NameParts → List ℕ → Pattern → Type 0
@@ -72,7 +75,3 @@ IsPatternReading spaces names text pattern = HasPatternReading spaces names text
 -- the first fault of a text, read as a pattern
 abbrev pub IsFirstPatternFault : List Space → List NameParts → List ℕ → ExprRule → ℕ → Type 0
 IsFirstPatternFault spaces names text rule place = HasPatternFault spaces names text (tokens_of text) rule place
-
--- what reading tokens as a pattern answers, with the table that it leaves
-abbrev pub IsPatternRead : List Space → List NameParts → List ℕ → List Token → Result Pattern ExprFault → Type 0
-IsPatternRead spaces names text tokens = IsReadBy (λ later. HasPatternReading spaces later text tokens) (HasPatternFault spaces names text tokens) names

@@ -5,7 +5,7 @@ ghost use Rattle.serna_kinds.specs.Names.{NameParts, Space};
 ghost use Rattle.xpath_tokens.specs.declared.symbol.Symbol.{Symbol};
 ghost use Rattle.xpath_trees.specs.declared.expr.Expr.{Expr};
 ghost use Rattle.xpath_trees.specs.WellFormed.{is_well_formed};
-ghost use Rattle.xpath_syntax.specs.Grammar.{IsExpr};
+ghost use Rattle.xpath_parser.specs.Grammar.{IsExpr};
 ghost use Rattle.xpath_syntax.specs.Reading.{IsReading};
 
 /// A list of tokens is at most one expression.

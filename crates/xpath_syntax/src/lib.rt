@@ -3,16 +3,11 @@
 #![tactic(auto)]
 
 mod laws;
-mod machine;
-mod parse;
 mod pattern_laws;
-mod pattern_parse;
 mod pattern_reader;
 mod pattern_state;
 mod pattern_step;
 mod reader;
-mod state;
-mod step;
 
 pub use laws::{one_tree, readings_are_well_formed};
 pub use pattern_laws::{one_pattern, pattern_readings_are_readings, patterns_are_expressions};

@@ -1,66 +1,20 @@
 //! Reads a pattern from its text.
 
-ghost use Rattle.std.specs.Prelude.{◌≡◌, ◌≤◌, ℕ, List, length, IfOk, IfErr, OnOk, MatchResult};
-ghost use Rattle.std.specs.List.{AllByRecursion};
+ghost use Rattle.std.specs.Prelude.{◌≡◌, ℕ, List, IfOk, IfErr, OnOk, MatchResult};
 ghost use Rattle.serna_kinds.specs.Names.{NameParts, Grows};
 ghost use Rattle.xpath_trees.specs.declared.pattern.Pattern.{Pattern};
 ghost use Rattle.xpath_tokens.specs.declared.faults.ExprRule.{ExprRule};
-ghost use Rattle.xpath_tokens.specs.Tokens.{IsCut, tokens_of};
+ghost use Rattle.xpath_tokens.specs.Tokens.{tokens_of};
 ghost use Rattle.xpath_tokens.specs.Named.{HasNames, names_of, with_names};
-ghost use Rattle.xpath_tokens.specs.PatternFaults.{pattern_fault_before};
-ghost use Rattle.xpath_syntax.specs.Reading.{IsPatternReading, IsFirstPatternFault, IsPatternRead};
+ghost use Rattle.xpath_syntax.specs.Reading.{IsPatternReading, IsFirstPatternFault};
 
 use crate::NoMemory;
-use crate::pattern_parse::{ParsedPattern, parse_pattern};
-use crate::reader::{ExprFault, place_of};
+use crate::pattern_state::PatternState;
+use crate::reader::{ExprFault, read_tokens};
 use serna_kinds::{NameTable, Spaces};
 use std::alloc::Global;
-use xpath_tokens::{ExprRule, Token, pattern_fault_among, symbols_at, tokens_of};
+use xpath_tokens::{ReadAs, tokens_of};
 use xpath_trees::Pattern;
-
-/// The first fault where no pattern can go on with the token of this number.
-fn pattern_fault_before(
-    spaces: &Spaces,
-    text: &str,
-    tokens: &[Token],
-    count: usize,
-) -> (ExprRule, usize)
-    requires within { count ≤ length tokens.now }
-    requires cut { AllByRecursion (IsCut text.now) tokens.now }
-    ensures { result ≡ pattern_fault_before spaces.now text.now tokens.now count }
-{
-    match pattern_fault_among(spaces, text, &tokens[..count]) {
-        Some(found) => found,
-        None => (ExprRule::Syntax, place_of(text, tokens, count)),
-    }
-}
-
-/// Reads the tokens of a text.
-fn read_pattern_tokens(
-    alloc: Global,
-    text: &str,
-    tokens: &[Token],
-    spaces: &Spaces,
-    names: &mut NameTable,
-) -> Result<Pattern, ExprFault>
-    requires { AllByRecursion (IsCut text.now) tokens.now }
-    ensures read { IsPatternRead spaces.now names.new text.now tokens.now result }
-    ensures named { OnOk result ((later : List NameParts) → Grows names.new later → HasNames spaces.now later text.now tokens.now) }
-    ensures names { OnOk result (names.new ≡ with_names names.old (names_of spaces.now text.now tokens.now)) }
-    ensures grows { Grows names.old names.new }
-{
-    let symbols = symbols_at(alloc, text, tokens, spaces, names)?;
-    match parse_pattern(alloc, symbols)? {
-        ParsedPattern::Pattern(pattern) => match pattern_fault_among(spaces, text, tokens) {
-            Some((rule, place)) => Err(ExprFault::Refused(rule, place)),
-            None => Ok(pattern),
-        },
-        ParsedPattern::Stop(count) => {
-            let (rule, place) = pattern_fault_before(spaces, text, tokens, count);
-            Err(ExprFault::Refused(rule, place))
-        }
-    }
-}
 
 /// Reads a pattern (XSLT 1.0, section 5.2, without `id( )` and `key( )`; its predicates are expressions as `read_expr` reads
 /// them, without `current( )`; at most 64 `(` and `[` are open at once). `text` is the whole of it, and places are bytes of it.
@@ -88,5 +42,12 @@ pub fn read_pattern(
     ensures grows { Grows names.old names.new }
 {
     let tokens = tokens_of(alloc, text)?;
-    read_pattern_tokens(alloc, text, tokens.as_slice(), spaces, names)
+    read_tokens::<PatternState>(
+        alloc,
+        ReadAs::Pattern,
+        text,
+        tokens.as_slice(),
+        spaces,
+        names,
+    )
 }

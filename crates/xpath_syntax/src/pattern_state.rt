@@ -1,8 +1,8 @@
 //! The reader of a pattern between two tokens.
 
-use crate::state::State;
 use serna_kinds::{Axis, NodeTest};
 use sqlite_items::Items;
+use xpath_parser::State;
 use xpath_trees::{Alternative, Expr};
 
 /// The step that was read last, with its predicates so far.

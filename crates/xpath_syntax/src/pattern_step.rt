@@ -1,18 +1,20 @@
 //! How a token moves the reader of a pattern.
 
 ghost use Rattle.std.specs.Prelude.{◌≡◌, ◌++◌, [], ◌∷◌, IfOk, Some, None, option_map};
-ghost use Rattle.xpath_syntax.specs.Trees.{step_of};
-ghost use Rattle.xpath_syntax.specs.Machine.{finish, after};
+ghost use Rattle.xpath_parser.specs.Trees.{step_of};
+ghost use Rattle.xpath_parser.specs.Machine.{finish, after};
 ghost use Rattle.xpath_syntax.specs.PatternMachine.{from_context, root_alone, with_step, with_descendants, last_step, whole, with_predicate, is_bar, is_close_bracket, on_axis, begin_step, after_axis, after_beginning, after_last, closes, after_predicate, alternative_at, next, after_path, after_pattern, pattern_beginning, finish_pattern};
 
 use crate::NoMemory;
-use crate::machine::step_of;
 use crate::pattern_state::{LastStep, PatternPlace, PatternState};
-use crate::state::{Operand, Pending, Place, State};
-use crate::step::{beginning, end_predicate, is_close, is_colons, is_open, put_together, step};
 use serna_kinds::{Axis, NodeTest};
 use sqlite_items::Items;
 use std::alloc::Global;
+use xpath_parser::parse::Machine;
+use xpath_parser::step::{
+    beginning, end_predicate, is_close, is_colons, is_open, put_together, step,
+};
+use xpath_parser::{Operand, Pending, Place, State, step_of};
 use xpath_tokens::{Operator, Stack, Symbol};
 use xpath_trees::{Alternative, Expr, Pattern, Step};
 
@@ -330,7 +332,7 @@ fn after_bar(
 }
 
 /// Where a token leads: None where no pattern can go on with it.
-pub fn pattern_step(
+fn pattern_step(
     alloc: Global,
     state: PatternState,
     symbol: Symbol,
@@ -346,7 +348,7 @@ pub fn pattern_step(
 }
 
 /// Before the first token.
-pub fn pattern_beginning(alloc: Global) -> PatternState
+fn pattern_beginning(alloc: Global) -> PatternState
     ensures { result ≡ pattern_beginning }
 {
     PatternState {
@@ -367,7 +369,7 @@ fn alternative_at(alloc: Global, place: PatternPlace) -> Result<Option<Alternati
 }
 
 /// The pattern, where the tokens may end here.
-pub fn finish_pattern(alloc: Global, state: PatternState) -> Result<Option<Pattern>, NoMemory>
+fn finish_pattern(alloc: Global, state: PatternState) -> Result<Option<Pattern>, NoMemory>
     ensures { IfOk result (λ pattern. pattern ≡ finish_pattern state) }
 {
     let PatternState { mut ended, place } = state;
@@ -379,5 +381,33 @@ pub fn finish_pattern(alloc: Global, state: PatternState) -> Result<Option<Patte
             }))
         }
         None => Ok(None),
+    }
+}
+
+impl Machine for PatternState {
+    ghost use Rattle.std.specs.Prelude.{Some};
+    ghost use Rattle.xpath_syntax.specs.Patterns.{IsPattern};
+    ghost use Rattle.xpath_syntax.specs.PatternMachine.{pattern_beginning, run_pattern, after_pattern, finish_pattern};
+
+    type Tree = Pattern;
+
+    ghost run = { run_pattern (Some pattern_beginning) };
+
+    ghost leads = { after_pattern };
+
+    ghost ends = { finish_pattern };
+
+    ghost grammar = { IsPattern };
+
+    fn beginning(alloc: Global) -> PatternState {
+        pattern_beginning(alloc)
+    }
+
+    fn step(self, alloc: Global, symbol: Symbol) -> Result<Option<PatternState>, NoMemory> {
+        pattern_step(alloc, self, symbol)
+    }
+
+    fn finish(self, alloc: Global) -> Result<Option<Pattern>, NoMemory> {
+        finish_pattern(alloc, self)
     }
 }

@@ -7,14 +7,16 @@ ghost use Rattle.xpath_trees.specs.declared.expr.Expr.{Expr};
 ghost use Rattle.xpath_tokens.specs.declared.faults.ExprRule.{ExprRule};
 ghost use Rattle.xpath_tokens.specs.Tokens.{IsCut, tokens_of};
 ghost use Rattle.xpath_tokens.specs.Faults.{place_of, fault_before};
-ghost use Rattle.xpath_syntax.specs.Reading.{IsReading, IsFirstFault, IsRead};
+ghost use Rattle.xpath_parser.specs.Advance.{ReadsBy};
+ghost use Rattle.xpath_syntax.specs.Reading.{IsReading, IsFirstFault, IsReadAs};
 ghost use Rattle.xpath_tokens.specs.Named.{HasNames, names_of, with_names};
 
 use crate::NoMemory;
-use crate::parse::{Parsed, parse};
 use serna_kinds::{NameTable, Spaces};
 use std::alloc::Global;
-use xpath_tokens::{ExprRule, Token, fault_among, symbols_at, tokens_of};
+use xpath_parser::State;
+use xpath_parser::parse::{Machine, parse};
+use xpath_tokens::{ExprRule, ReadAs, Token, fault_among, symbols_at, tokens_of};
 use xpath_trees::Expr;
 
 /// Why a text was not read: the rule that it breaks first and the place of the byte where it does, or want of memory.
@@ -35,7 +37,7 @@ impl From<NoMemory> for ExprFault {
 }
 
 /// The place of a token, or the length of the text behind the last one.
-pub fn place_of(text: &str, tokens: &[Token], count: usize) -> usize
+fn place_of(text: &str, tokens: &[Token], count: usize) -> usize
     ensures { result ≡ place_of text.now tokens.now count }
 {
     match tokens.get(count) {
@@ -44,40 +46,48 @@ pub fn place_of(text: &str, tokens: &[Token], count: usize) -> usize
     }
 }
 
-/// The first fault where no expression can go on with the token of this number.
-fn fault_before(spaces: &Spaces, text: &str, tokens: &[Token], count: usize) -> (ExprRule, usize)
+/// The first fault where no expression, or no pattern, can go on with the token of this number.
+fn fault_before(
+    as_what: ReadAs,
+    spaces: &Spaces,
+    text: &str,
+    tokens: &[Token],
+    count: usize,
+) -> (ExprRule, usize)
     requires within { count ≤ length tokens.now }
     requires cut { AllByRecursion (IsCut text.now) tokens.now }
-    ensures { result ≡ fault_before spaces.now text.now tokens.now count }
+    ensures { result ≡ fault_before as_what spaces.now text.now tokens.now count }
 {
-    match fault_among(spaces, text, &tokens[..count]) {
+    match fault_among(as_what, spaces, text, &tokens[..count]) {
         Some(found) => found,
         None => (ExprRule::Syntax, place_of(text, tokens, count)),
     }
 }
 
-/// Reads the tokens of a text.
-fn read_tokens(
+/// Reads the tokens of a text by a machine.
+pub fn read_tokens<M: Machine>(
     alloc: Global,
+    as_what: ReadAs,
     text: &str,
     tokens: &[Token],
     spaces: &Spaces,
     names: &mut NameTable,
-) -> Result<Expr, ExprFault>
-    requires { AllByRecursion (IsCut text.now) tokens.now }
-    ensures read { IsRead spaces.now names.new text.now tokens.now result }
+) -> Result<M::Tree, ExprFault>
+    requires cut { AllByRecursion (IsCut text.now) tokens.now }
+    requires reads { ReadsBy M.run M.leads M.ends M.grammar }
+    ensures read { IsReadAs M.grammar as_what spaces.now names.new text.now tokens.now result }
     ensures named { OnOk result ((later : List NameParts) → Grows names.new later → HasNames spaces.now later text.now tokens.now) }
     ensures names { OnOk result (names.new ≡ with_names names.old (names_of spaces.now text.now tokens.now)) }
     ensures grows { Grows names.old names.new }
 {
     let symbols = symbols_at(alloc, text, tokens, spaces, names)?;
-    match parse(alloc, symbols)? {
-        Parsed::Tree(tree) => match fault_among(spaces, text, tokens) {
+    match parse::<M>(alloc, symbols)? {
+        Ok(tree) => match fault_among(as_what, spaces, text, tokens) {
             Some((rule, place)) => Err(ExprFault::Refused(rule, place)),
             None => Ok(tree),
         },
-        Parsed::Stop(count) => {
-            let (rule, place) = fault_before(spaces, text, tokens, count);
+        Err(count) => {
+            let (rule, place) = fault_before(as_what, spaces, text, tokens, count);
             Err(ExprFault::Refused(rule, place))
         }
     }
@@ -108,5 +118,12 @@ pub fn read_expr(
     ensures grows { Grows names.old names.new }
 {
     let tokens = tokens_of(alloc, text)?;
-    read_tokens(alloc, text, tokens.as_slice(), spaces, names)
+    read_tokens::<State>(
+        alloc,
+        ReadAs::Expression,
+        text,
+        tokens.as_slice(),
+        spaces,
+        names,
+    )
 }

@@ -27,21 +27,22 @@ use Rattle.xpath_tokens.specs.declared.symbol.Operator.{Operator}
 use Rattle.xpath_tokens.specs.declared.symbol.Operator.TheVariants as operator
 use Rattle.xpath_tokens.specs.declared.symbol.Symbol.{Symbol}
 use Rattle.xpath_tokens.specs.declared.symbol.Symbol.TheVariants as symbol
-use Rattle.xpath_syntax.specs.declared.state.Level.{Level}
-use Rattle.xpath_syntax.specs.declared.state.Level.TheVariants as level
+use Rattle.xpath_parser.specs.declared.state.Level.{Level}
 use Rattle.xpath_tokens.specs.declared.tokens.Kind.{Kind}
 use Rattle.xpath_tokens.specs.declared.tokens.Kind.TheVariants as kind
-use Rattle.xpath_syntax.specs.Trees.{level_of, rank, step_of, signs_past, signed, filtered}
-use Rattle.xpath_syntax.specs.Grammar.{Part, further, chain, IsChain, signs, IsSigned, Stepped, IsTest, bracketed, trees, IsStep, behind_slash, widened, steps_behind, AreSteps, arguments, IsPrimary, IsFilter, IsPath, IsUnion, IsUnary, IsMultiplicative, IsAdditive, IsRelational, IsEquality, IsAnd, IsOr, IsExprIn}
+use Rattle.xpath_parser.specs.Trees.{rank, step_of, chain_tree, signs_past, signed, filtered}
+use Rattle.xpath_parser.specs.Grammar.{Part, IsTest, trees, IsExpr}
 use Rattle.serna_kinds.specs.Qualified.{prefix_of, uri_for, attribute_uri, xml_prefix, xml_uri}
 use Rattle.xpath_tokens.specs.Symbols.{node_types, function_named}
+use Rattle.xpath_tokens.specs.declared.faults.ReadAs.TheVariants as how
 use Rattle.xpath_tokens.specs.Faults.{wrong_arity, prefix_fault, fault_at}
 use Rattle.xpath_tokens.specs.Spelling.{IsLocalName}
 use Rattle.xpath_writer.specs.Writable.{HasPrefix, IsWritableName, IsNodeType, IsWritableTest, IsWritableAtom, IsWritable}
 use Rattle.xpath_writer.specs.Writing.{Word, Written, WrittenStep, operand, joined, grouped, mark, mark_text, is_named, operator_kind, sign_words, is_slash, is_empty, is_bare, short_or, short_for, axis_words, test_words, full_step, predicate_words, further_arguments, argument_words, slash_words, steps_words, root_words, function_text, name_text, prefix_among, shown_start, declares, prefix_for}
-use Rattle.xpath_syntax.proofs.Arity.{AreGiven, given_past, regrouped, all-append}
-use Rattle.xpath_syntax.proofs.Balance.{Solid, given_of, given_are, solid_in, solid_expr}
+use Rattle.xpath_syntax.proofs.Arity.{AreGiven}
+use Rattle.xpath_syntax.proofs.Balance.{Solid, given_of, given_are, solid_expr}
 use Rattle.xpath_syntax.proofs.Levels.{AreAt}
+use Rattle.xpath_syntax.proofs.Walks.{operand_of, IsArgument, Keeps, kept}
 use Rattle.xpath_writer.proofs.Leaves.{prefix_from, parted_prefixed, reads, spelling, name_text-is, all_leaves}
 use Rattle.xpath_writer.proofs.Readable.{same_bytes}
 use Rattle.xpath_writer.proofs.Rewritten.{sh, syms, syms-append, written_others, chain-shown}
@@ -53,7 +54,7 @@ use Rattle.xpath_writer.proofs.Shown.{shown-step_of, shown-Path, shown-Filter, s
 -- a word without fault, with so many arguments behind it where it is a function's name
 abbrev pub IsFaultless : List Space → Kind → List ℕ → Option ℕ → Type 0
 IsFaultless spaces kind.Callee w n = (is_some (lookup (bytes_eq w) node_types) ≡ true) ⊎ ((f : Function) × (function_named w ≡ Some f) × (wrong_arity f n ≡ None))
-IsFaultless spaces k w n = fault_at spaces k w [] ≡ None
+IsFaultless spaces k w n = fault_at how.Expression spaces k w [] ≡ None
 
 named_back : (f : Function) → function_named (function_text f) ≡ Some f
 named_back function.Last = refl
@@ -163,13 +164,6 @@ module _ (spaces : List Space) (names : List NameParts) where
   abbrev AreClean : List Part → Type 0
   AreClean = AllByRecursion (λ q. Clean q.tree)
 
-  abbrev AreWritable : List Symbol → Type 0
-  AreWritable = AllByRecursion (IsWritable spaces names)
-
-  -- parts of this kind are written without fault
-  abbrev Tidy : (Part → Type 0) → Type 0
-  Tidy Is = (q : Part) → Is q → AreWritable q.tokens → (rest : List Symbol) → AreGiven (q.tokens ++ rest) → Clean q.tree
-
   adds_none : Adds []
   adds_none ws all = all
 
@@ -211,58 +205,22 @@ module _ (spaces : List Space) (names : List NameParts) where
       adds_seq (operand least flag (sh spaces names e)) (mark (operator_kind x.0) ∷ rest) (adds_operand least flag e is)
       (λ ws free. (operator_faultless x.0 (given_of (syms spaces names (rest ++ ws))), adds_joined least before x.1.tree xs all.0 all.1 ws free))
 
-  others_clean : (l : Level) (Is : Part → Type 0) → Tidy Is → (xs : List (Operator × Part)) → AllByRecursion (λ x. (level_of x.0 ≡ l) × Is x.1) xs → AreWritable (further xs) → (rest : List Symbol)
-      → AreGiven (further xs ++ rest) → AreAt l xs × AllByRecursion (λ x. Clean x.1.tree) xs
-  others_clean l Is tidy [] all writable rest given = (tt, tt)
-  others_clean l Is tidy (x ∷ xs) all writable rest given =
-      let parts = all-append (IsWritable spaces names) x.1.tokens (further xs) writable.1 in
-      let own = regrouped x.1.tokens (further xs) rest given.1 in
-      let behind = others_clean l Is tidy xs all.1 parts.1 rest (given_past x.1.tokens (further xs ++ rest) own) in
-      ((all.0.0, behind.0), (tidy x.1 all.0.1 parts.0 (further xs ++ rest) own, behind.1))
-
-  chain_clean : (l : Level) (Is : Part → Type 0) → Tidy Is → Tidy (IsChain l Is)
-  chain_clean l Is tidy p is writable rest given = go is.others is.others_are is.whole_is
-    where
-      go : (xs : List (Operator × Part)) → AllByRecursion (λ x. (level_of x.0 ≡ l) × Is x.1) xs → p ≡ chain l is.first xs → Clean p.tree
-      go [] all whole =
-          let own : AreWritable is.first.tokens = subst (λ (q : Part). AreWritable q.tokens) whole writable in
-          let has : AreGiven (is.first.tokens ++ rest) = subst (λ (q : Part). AreGiven (q.tokens ++ rest)) whole given in
-          subst (λ (q : Part). Clean q.tree) (sym whole) (tidy is.first is.first_is own rest has)
-      go (x ∷ xs) all whole =
-          let own : AreWritable (is.first.tokens ++ further (x ∷ xs)) = subst (λ (q : Part). AreWritable q.tokens) whole writable in
-          let has : AreGiven ((is.first.tokens ++ further (x ∷ xs)) ++ rest) = subst (λ (q : Part). AreGiven (q.tokens ++ rest)) whole given in
-          let parts = all-append (IsWritable spaces names) is.first.tokens (further (x ∷ xs)) own in
-          let here = regrouped is.first.tokens (further (x ∷ xs)) rest has in
-          let first = tidy is.first is.first_is parts.0 (further (x ∷ xs) ++ rest) here in
-          let others = others_clean l Is tidy (x ∷ xs) all parts.1 rest (given_past is.first.tokens (further (x ∷ xs) ++ rest) here) in
-          subst (λ (q : Part). Clean q.tree) (sym whole) (λ before.
-          subst (λ (w : Written). Adds (w.words before)) (sym (chain-shown spaces names l is.first.tree x xs others.0)) (adds_joined (rank l + 1) before is.first.tree (x ∷ xs) first others.1))
+  chain_clean : (l : Level) (first : Expr) (x : Operator × Part) (xs : List (Operator × Part)) → Clean first → AreAt l (x ∷ xs) → AllByRecursion (λ o. Clean o.1.tree) (x ∷ xs)
+      → Clean (chain_tree l first (map operand_of (x ∷ xs)))
+  chain_clean l first x xs is at all before =
+      subst (λ (w : Written). Adds (w.words before)) (sym (chain-shown spaces names l first x xs at)) (adds_joined (rank l + 1) before first (x ∷ xs) is all)
 
   -- Signs
 
-  signed_clean : (Is : Part → Type 0) → Tidy Is → Tidy (IsSigned Is)
-  signed_clean Is tidy p is writable rest given = subst (λ (q : Part). Clean q.tree) (sym is.whole_is) (go is.count)
-    where
-      own : AreWritable (signs is.count ++ is.plain.tokens)
-      own = subst (λ (q : Part). AreWritable q.tokens) is.whole_is writable
+  sign_adds : (minus : Signs) → Adds (sign_words minus)
+  sign_adds sign.Twice ws all = (refl, (refl, all))
+  sign_adds sign.Once ws all = (refl, all)
 
-      has : AreGiven ((signs is.count ++ is.plain.tokens) ++ rest)
-      has = subst (λ (q : Part). AreGiven (q.tokens ++ rest)) is.whole_is given
-
-      plain : Clean is.plain.tree
-      plain =
-          tidy is.plain is.plain_is (all-append (IsWritable spaces names) (signs is.count) is.plain.tokens own).1 rest
-          (given_past (signs is.count) (is.plain.tokens ++ rest) (regrouped (signs is.count) is.plain.tokens rest has))
-
-      sign_adds : (minus : Signs) → Adds (sign_words minus)
-      sign_adds sign.Twice ws all = (refl, (refl, all))
-      sign_adds sign.Once ws all = (refl, all)
-
-      go : (n : ℕ) → Clean (signed n is.plain.tree)
-      go zero before = plain before
-      go (suc n) before =
-          subst (λ (w : Written). Adds (w.words before)) (sym (shown-Negate spaces names (signs_past n) is.plain.tree))
-          (adds_seq (sign_words (signs_past n)) (operand 8 before (sh spaces names is.plain.tree)) (sign_adds (signs_past n)) (adds_operand 8 before is.plain.tree plain))
+  signed_clean : (n : ℕ) (e : Expr) → Clean e → Clean (signed n e)
+  signed_clean zero e is before = is before
+  signed_clean (suc n) e is before =
+      subst (λ (w : Written). Adds (w.words before)) (sym (shown-Negate spaces names (signs_past n) e))
+      (adds_seq (sign_words (signs_past n)) (operand 8 before (sh spaces names e)) (sign_adds (signs_past n)) (adds_operand 8 before e is))
 
   -- What stands in brackets
 
@@ -304,9 +262,9 @@ module _ (spaces : List Space) (names : List NameParts) where
   type_adds test.AnyComment is ws all = (inl refl, (refl, (refl, all)))
   type_adds t is ws all = absurd is
 
-  tested : (ts : List Symbol) (t : NodeTest) → IsTest ts t → AreWritable ts → Adds (test_words spaces names t)
-  tested ts t (inl e) writable = test_adds t (subst AreWritable e writable).0
-  tested ts t (inr e) writable = type_adds t (subst AreWritable e writable).0
+  tested : (ts : List Symbol) (t : NodeTest) → IsTest ts t → AllByRecursion (IsWritable spaces names) ts → Adds (test_words spaces names t)
+  tested ts t (inl e) writable = test_adds t (subst (AllByRecursion (IsWritable spaces names)) e writable).0
+  tested ts t (inr e) writable = type_adds t (subst (AllByRecursion (IsWritable spaces names)) e writable).0
 
   step_adds : (on : Axis) (t : NodeTest) (ps : List Part) → Adds (test_words spaces names t) → AreClean ps → CleanStep (step_of on t (trees ps))
   step_adds on t ps tests all = subst (λ (w : WrittenStep). Adds w.words) (sym (shown-step_of spaces names on t (trees ps))) (go (short_for on (is_bare t es)) refl)
@@ -366,138 +324,61 @@ module _ (spaces : List Space) (names : List NameParts) where
   inner_parts-length [] = refl
   inner_parts-length (p ∷ ps) = ap (λ n. suc n) (inner_parts-length ps)
 
-  module _ (I : Part → Type 0) (inner : Tidy I) (read : (q : Part) → I q → Solid q.tokens) (rewritten : (q : Part) → I q → AreWritable q.tokens → Solid (syms spaces names ((sh spaces names q.tree).words false))) where
-    bracketed_clean : (ps : List Part) → AllByRecursion I ps → AreWritable (bracketed ps) → (rest : List Symbol) → AreGiven (bracketed ps ++ rest) → AreClean ps
-    bracketed_clean [] all writable rest given = tt
-    bracketed_clean (p ∷ ps) all writable rest given =
-        let behind = symbol.CloseBracket ∷ bracketed ps in
-        let parts = all-append (IsWritable spaces names) p.tokens behind writable.1 in
-        let own = regrouped p.tokens behind rest given.1 in
-        (inner p all.0 parts.0 (behind ++ rest) own, bracketed_clean ps all.1 parts.1.1 rest (given_past p.tokens (behind ++ rest) own).1)
+  -- the arguments that are written have their brackets in pairs, as those that were read
+  inner_solid : (ps : List Part) → AllByRecursion (IsArgument (IsWritable spaces names) Clean) ps → AllByRecursion (λ q. Solid q.tokens) (inner_parts spaces names ps)
+  inner_solid [] all = tt
+  inner_solid (p ∷ ps) all =
+      (solid_expr (syms spaces names ((sh spaces names p.tree).words false)) p.tree (rewritten_expr spaces names p.tokens p.tree (all_leaves spaces names p.tokens all.0.1) all.0.0), inner_solid ps all.1)
 
-    arguments_clean : (ps : List Part) → AllByRecursion I ps → AreWritable (arguments ps) → (rest : List Symbol) → AreGiven (arguments ps ++ rest)
-        → AreClean ps × AllByRecursion (λ q. Solid q.tokens) ps × AllByRecursion (λ q. Solid q.tokens) (inner_parts spaces names ps)
-    arguments_clean [] all writable rest given = (tt, tt, tt)
-    arguments_clean (p ∷ []) all writable rest given = ((inner p all.0 writable rest given, tt), (read p all.0, tt), (rewritten p all.0 writable, tt))
-    arguments_clean (p ∷ q ∷ ps) all writable rest given =
-        let behind = symbol.Comma ∷ arguments (q ∷ ps) in
-        let parts = all-append (IsWritable spaces names) p.tokens behind writable in
-        let own = regrouped p.tokens behind rest given in
-        let more = arguments_clean (q ∷ ps) all.1 parts.1.1 rest (given_past p.tokens (behind ++ rest) own).1 in
-        ((inner p all.0 parts.0 (behind ++ rest) own, more.0), (read p all.0, more.1), (rewritten p all.0 parts.0, more.2))
+  all_clean : (ps : List Part) → AllByRecursion (IsArgument (IsWritable spaces names) Clean) ps → AreClean ps
+  all_clean [] all = tt
+  all_clean (p ∷ ps) all = (all.0.2, all_clean ps all.1)
 
-    step_clean : (s : Stepped) → IsStep I s → AreWritable s.tokens → (rest : List Symbol) → AreGiven (s.tokens ++ rest) → CleanStep s.step
-    step_clean s (inl is) writable rest given =
-        let own : AreWritable (is.axis_tokens ++ (is.test_tokens ++ bracketed is.predicates)) = subst (λ (x : Stepped). AreWritable x.tokens) is.whole_is writable in
-        let has : AreGiven ((is.axis_tokens ++ (is.test_tokens ++ bracketed is.predicates)) ++ rest) = subst (λ (x : Stepped). AreGiven (x.tokens ++ rest)) is.whole_is given in
-        let parts = all-append (IsWritable spaces names) is.test_tokens (bracketed is.predicates) (all-append (IsWritable spaces names) is.axis_tokens (is.test_tokens ++ bracketed is.predicates) own).1 in
-        let past = given_past is.axis_tokens ((is.test_tokens ++ bracketed is.predicates) ++ rest) (regrouped is.axis_tokens (is.test_tokens ++ bracketed is.predicates) rest has) in
-        let left = given_past is.test_tokens (bracketed is.predicates ++ rest) (regrouped is.test_tokens (bracketed is.predicates) rest past) in
-        subst (λ (x : Stepped). CleanStep x.step) (sym is.whole_is)
-        (step_adds is.on is.test is.predicates (tested is.test_tokens is.test is.test_is parts.0) (bracketed_clean is.predicates is.predicates_are parts.1 rest left))
-    step_clean s (inr (inl e)) writable rest given = subst (λ (x : Stepped). CleanStep x.step) (sym e) (step_adds axis.Itself test.AnyNode [] any_node_adds tt)
-    step_clean s (inr (inr e)) writable rest given = subst (λ (x : Stepped). CleanStep x.step) (sym e) (step_adds axis.Parent test.AnyNode [] any_node_adds tt)
+  call_clean : (f : Function) (ps : List Part) → AreClean ps → AllByRecursion (λ q. Solid q.tokens) (inner_parts spaces names ps) → wrong_arity f (Some (length ps)) ≡ None → Clean (expr.Call f (trees ps))
+  call_clean f ps clean solid takes before =
+      subst (λ (w : Written). Adds (w.words before)) (sym (shown-Call spaces names f (trees ps)))
+      (λ ws free. (inr (f, named_back f, ap (wrong_arity f) (count ws) ∙ takes), (refl, adds_seq words (mark kind.Close ∷ []) (adds_arguments ps clean) (λ vs more. (refl, more)) ws free)))
+    where
+      words : List Word
+      words = argument_words (map (sh spaces names) (trees ps))
 
-    widened_clean : (double : Bool) (ss : List Step) → AllByRecursion CleanStep ss → AllByRecursion CleanStep (widened double ++ ss)
-    widened_clean true ss all = (step_adds axis.DescendantOrSelf test.AnyNode [] any_node_adds tt, all)
-    widened_clean false ss all = all
+      count : (ws : List Word) → given_of (symbol.Open ∷ syms spaces names ((words ++ mark kind.Close ∷ []) ++ ws)) ≡ Some (length ps)
+      count ws =
+          ap (λ l. given_of (symbol.Open ∷ syms spaces names l)) (append_assoc words (mark kind.Close ∷ []) ws)
+          ∙ ap (λ l. given_of (symbol.Open ∷ l)) (syms-append spaces names words (mark kind.Close ∷ ws) ∙ ap (λ l. l ++ symbol.Close ∷ syms spaces names ws) (all_arguments-read spaces names ps))
+          ∙ given_are (inner_parts spaces names ps) (syms spaces names ws) solid
+          ∙ ap (λ n. Some n) (inner_parts-length ps)
 
-    steps_clean : (xs : List (Bool × Stepped)) → AreSteps I xs → AreWritable (behind_slash xs) → (rest : List Symbol) → AreGiven (behind_slash xs ++ rest) → AllByRecursion CleanStep (steps_behind xs)
-    steps_clean [] all writable rest given = tt
-    steps_clean (x ∷ xs) all writable rest given =
-        let parts = all-append (IsWritable spaces names) x.1.tokens (behind_slash xs) writable.1 in
-        let own = regrouped x.1.tokens (behind_slash xs) rest given.1 in
-        widened_clean x.0 (x.1.step ∷ steps_behind xs) (step_clean x.1 all.0 parts.0 (behind_slash xs ++ rest) own, steps_clean xs all.1 parts.1 rest (given_past x.1.tokens (behind_slash xs ++ rest) own))
+  -- Paths by their starts
 
-    call_clean : (f : Function) (ps : List Part) → AreClean ps → AllByRecursion (λ q. Solid q.tokens) (inner_parts spaces names ps) → wrong_arity f (Some (length ps)) ≡ None → Clean (expr.Call f (trees ps))
-    call_clean f ps clean solid takes before =
-        subst (λ (w : Written). Adds (w.words before)) (sym (shown-Call spaces names f (trees ps)))
-        (λ ws free. (inr (f, named_back f, ap (wrong_arity f) (count ws) ∙ takes), (refl, adds_seq words (mark kind.Close ∷ []) (adds_arguments ps clean) (λ vs more. (refl, more)) ws free)))
-      where
-        words : List Word
-        words = argument_words (map (sh spaces names) (trees ps))
+  filter_clean : (e : Expr) (p : Part) (ps : List Part) → Clean e → AreClean (p ∷ ps) → Clean (filtered e (trees (p ∷ ps)))
+  filter_clean e p ps is all before =
+      subst (λ (w : Written). Adds (w.words before)) (sym (shown-Filter spaces names e (trees (p ∷ ps))))
+      (adds_seq (operand 11 false (sh spaces names e)) (predicate_words (map (sh spaces names) (trees (p ∷ ps)))) (adds_operand 11 false e is) (adds_predicates (p ∷ ps) all))
 
-        count : (ws : List Word) → given_of (symbol.Open ∷ syms spaces names ((words ++ mark kind.Close ∷ []) ++ ws)) ≡ Some (length ps)
-        count ws =
-            ap (λ l. given_of (symbol.Open ∷ syms spaces names l)) (append_assoc words (mark kind.Close ∷ []) ws)
-            ∙ ap (λ l. given_of (symbol.Open ∷ l)) (syms-append spaces names words (mark kind.Close ∷ ws) ∙ ap (λ l. l ++ symbol.Close ∷ syms spaces names ws) (all_arguments-read spaces names ps))
-            ∙ given_are (inner_parts spaces names ps) (syms spaces names ws) solid
-            ∙ ap (λ n. Some n) (inner_parts-length ps)
+  absolute_clean : (ss : List Step) → AllByRecursion CleanStep ss → Clean (expr.Path start.Root ss)
+  absolute_clean [] all = path_clean start.Root _ [] (shown-Root spaces names) root_adds
+  absolute_clean (s ∷ ss) all = path_clean start.Root _ (s ∷ ss) (shown-Root spaces names) (λ before. steps_adds (s ∷ ss) all (Some kind.Slash) slash_adds)
 
-    primary_clean : Tidy (IsPrimary I)
-    primary_clean p (inl is) writable rest given = subst (λ (q : Part). Clean q.tree) (sym is.1) (atom_clean is.0 (subst (λ (q : Part). AreWritable q.tokens) is.1 writable).0)
-    primary_clean p (inr (inl is)) writable rest given =
-        let own : AreWritable (symbol.Open ∷ (is.inner.tokens ++ symbol.Close ∷ [])) = subst (λ (q : Part). AreWritable q.tokens) is.whole_is writable in
-        let has : AreGiven ((symbol.Open ∷ (is.inner.tokens ++ symbol.Close ∷ [])) ++ rest) = subst (λ (q : Part). AreGiven (q.tokens ++ rest)) is.whole_is given in
-        subst (λ (q : Part). Clean q.tree) (sym is.whole_is)
-        (inner is.inner is.inner_is (all-append (IsWritable spaces names) is.inner.tokens (symbol.Close ∷ []) own.1).0 (symbol.Close ∷ rest) (regrouped is.inner.tokens (symbol.Close ∷ []) rest has.1))
-    primary_clean p (inr (inr is)) writable rest given =
-        let behind = arguments is.given ++ symbol.Close ∷ [] in
-        let own : AreWritable (symbol.Callee is.function ∷ (symbol.Open ∷ behind)) = subst (λ (q : Part). AreWritable q.tokens) is.whole_is writable in
-        let has : AreGiven ((symbol.Callee is.function ∷ (symbol.Open ∷ behind)) ++ rest) = subst (λ (q : Part). AreGiven (q.tokens ++ rest)) is.whole_is given in
-        let all = arguments_clean is.given is.given_are (all-append (IsWritable spaces names) (arguments is.given) (symbol.Close ∷ []) own.1.1).0 (symbol.Close ∷ rest) (regrouped (arguments is.given) (symbol.Close ∷ []) rest has.1.1) in
-        let many : given_of (symbol.Open ∷ (behind ++ rest)) ≡ Some (length is.given) = ap (λ l. given_of (symbol.Open ∷ l)) (append_assoc (arguments is.given) (symbol.Close ∷ []) rest) ∙ given_are is.given rest all.1 in
-        subst (λ (q : Part). Clean q.tree) (sym is.whole_is) (call_clean is.function is.given all.0 all.2 (sym (ap (wrong_arity is.function) many) ∙ has.0))
+  behind_clean : (e : Expr) (ss : List Step) → Clean e → AllByRecursion CleanStep ss → Clean (expr.Path (start.From e) ss)
+  behind_clean e ss is all =
+      path_clean (start.From e) _ ss (shown-From spaces names e) (λ before.
+      adds_seq (operand 10 false (sh spaces names e)) (steps_words (Some kind.Slash) (map (shs spaces names) ss)) (adds_operand 10 false e is) (steps_adds ss all (Some kind.Slash) slash_adds))
 
-    filter_clean : Tidy (IsFilter I)
-    filter_clean p is writable rest given = subst (λ (q : Part). Clean q.tree) (sym is.whole_is) (go is.predicates predicates)
-      where
-        own : AreWritable (is.plain.tokens ++ bracketed is.predicates)
-        own = subst (λ (q : Part). AreWritable q.tokens) is.whole_is writable
+  -- each production gives a tree that is written without fault
+  clean : Keeps (IsWritable spaces names) Clean CleanStep
+  clean = record {
+    atoms = atom_clean;
+    chains = chain_clean;
+    minus = signed_clean;
+    full = λ on tokens t ps is leaves all. step_adds on t ps (tested tokens t is leaves) all;
+    short = λ on. step_adds on test.AnyNode [] any_node_adds tt;
+    calls = λ f ps all takes. call_clean f ps (all_clean ps all) (inner_solid ps all) takes;
+    filters = filter_clean;
+    relative = λ s ss all. path_clean start.Context _ (s ∷ ss) (shown-Context spaces names) (λ before. steps_adds (s ∷ ss) all None (λ ws free. free));
+    absolute = absolute_clean;
+    behind = λ e ss some is all. behind_clean e ss is all;
+  }
 
-        has : AreGiven (is.plain.tokens ++ (bracketed is.predicates ++ rest))
-        has = regrouped is.plain.tokens (bracketed is.predicates) rest (subst (λ (q : Part). AreGiven (q.tokens ++ rest)) is.whole_is given)
-
-        plain : Clean is.plain.tree
-        plain = primary_clean is.plain is.plain_is (all-append (IsWritable spaces names) is.plain.tokens (bracketed is.predicates) own).0 (bracketed is.predicates ++ rest) has
-
-        predicates : AreClean is.predicates
-        predicates =
-            bracketed_clean is.predicates is.predicates_are (all-append (IsWritable spaces names) is.plain.tokens (bracketed is.predicates) own).1 rest (given_past is.plain.tokens (bracketed is.predicates ++ rest) has)
-
-        go : (ps : List Part) → AreClean ps → Clean (filtered is.plain.tree (trees ps))
-        go [] all before = plain before
-        go (q ∷ ps) all before =
-            subst (λ (w : Written). Adds (w.words before)) (sym (shown-Filter spaces names is.plain.tree (trees (q ∷ ps))))
-            (adds_seq (operand 11 false (sh spaces names is.plain.tree)) (predicate_words (map (sh spaces names) (trees (q ∷ ps)))) (adds_operand 11 false is.plain.tree plain) (adds_predicates (q ∷ ps) all))
-
-    cons_absolute : (x : Bool × Stepped) (xs : List (Bool × Stepped)) → AllByRecursion CleanStep (steps_behind (x ∷ xs)) → Clean (expr.Path start.Root (steps_behind (x ∷ xs)))
-    cons_absolute (true, x) xs all = path_clean start.Root _ (steps_behind ((true, x) ∷ xs)) (shown-Root spaces names) (λ before. steps_adds (steps_behind ((true, x) ∷ xs)) all (Some kind.Slash) slash_adds)
-    cons_absolute (false, x) xs all = path_clean start.Root _ (steps_behind ((false, x) ∷ xs)) (shown-Root spaces names) (λ before. steps_adds (steps_behind ((false, x) ∷ xs)) all (Some kind.Slash) slash_adds)
-
-    paths_clean : Tidy (IsPath I)
-    paths_clean p (inl is) writable rest given =
-        let own : AreWritable (is.first.tokens ++ behind_slash is.others) = subst (λ (q : Part). AreWritable q.tokens) is.whole_is writable in
-        let has = regrouped is.first.tokens (behind_slash is.others) rest (subst (λ (q : Part). AreGiven (q.tokens ++ rest)) is.whole_is given) in
-        let parts = all-append (IsWritable spaces names) is.first.tokens (behind_slash is.others) own in
-        let all : AllByRecursion CleanStep (is.first.step ∷ steps_behind is.others) = (step_clean is.first is.first_is parts.0 (behind_slash is.others ++ rest) has, steps_clean is.others is.others_are parts.1 rest (given_past is.first.tokens (behind_slash is.others ++ rest) has)) in
-        subst (λ (q : Part). Clean q.tree) (sym is.whole_is)
-        (path_clean start.Context _ (is.first.step ∷ steps_behind is.others) (shown-Context spaces names) (λ before. steps_adds (is.first.step ∷ steps_behind is.others) all None (λ ws free. free)))
-    paths_clean p (inr (inl e)) writable rest given = subst (λ (q : Part). Clean q.tree) (sym e) (path_clean start.Root _ [] (shown-Root spaces names) root_adds)
-    paths_clean p (inr (inr (inl is))) writable rest given =
-        let own : AreWritable (behind_slash (is.first ∷ is.others)) = subst (λ (q : Part). AreWritable q.tokens) is.whole_is writable in
-        let has : AreGiven (behind_slash (is.first ∷ is.others) ++ rest) = subst (λ (q : Part). AreGiven (q.tokens ++ rest)) is.whole_is given in
-        subst (λ (q : Part). Clean q.tree) (sym is.whole_is) (cons_absolute is.first is.others (steps_clean (is.first ∷ is.others) is.steps_are own rest has))
-    paths_clean p (inr (inr (inr (inl is)))) writable rest given = filter_clean p is writable rest given
-    paths_clean p (inr (inr (inr (inr is)))) writable rest given =
-        let behind = behind_slash (is.first ∷ is.others) in
-        let own : AreWritable (is.from.tokens ++ behind) = subst (λ (q : Part). AreWritable q.tokens) is.whole_is writable in
-        let has = regrouped is.from.tokens behind rest (subst (λ (q : Part). AreGiven (q.tokens ++ rest)) is.whole_is given) in
-        let parts = all-append (IsWritable spaces names) is.from.tokens behind own in
-        let from = filter_clean is.from is.from_is parts.0 (behind ++ rest) has in
-        let all = steps_clean (is.first ∷ is.others) is.steps_are parts.1 rest (given_past is.from.tokens (behind ++ rest) has) in
-        subst (λ (q : Part). Clean q.tree) (sym is.whole_is)
-        (path_clean (start.From is.from.tree) _ (steps_behind (is.first ∷ is.others)) (shown-From spaces names is.from.tree) (λ before.
-        adds_seq (operand 10 false (sh spaces names is.from.tree)) (steps_words (Some kind.Slash) (map (shs spaces names) (steps_behind (is.first ∷ is.others)))) (adds_operand 10 false is.from.tree from) (steps_adds (steps_behind (is.first ∷ is.others)) all (Some kind.Slash) slash_adds)))
-
-    or_clean : Tidy (IsOr I)
-    or_clean =
-        chain_clean level.Or (IsAnd I) (chain_clean level.And (IsEquality I) (chain_clean level.Equality (IsRelational I) (chain_clean level.Relational (IsAdditive I)
-        (chain_clean level.Additive (IsMultiplicative I) (chain_clean level.Multiplicative (IsUnary I) (signed_clean (IsUnion I) (chain_clean level.Union (IsPath I) paths_clean)))))))
-
-  pub clean_in : (depth : ℕ) → Tidy (IsExprIn depth)
-  unfolding IsExprIn
-  clean_in zero p is writable rest given = absurd is
-  clean_in (suc depth) p is writable rest given =
-      or_clean (IsExprIn depth) (clean_in depth) (solid_in depth) (λ q q_is q_writable.
-      solid_expr (syms spaces names ((sh spaces names q.tree).words false)) q.tree (rewritten_expr spaces names q.tokens q.tree (all_leaves spaces names q.tokens q_writable) (depth, q_is))) p is writable rest given
+  pub clean_expr : (tokens : List Symbol) (tree : Expr) → IsExpr tokens tree → AllByRecursion (IsWritable spaces names) tokens → (rest : List Symbol) → AreGiven (tokens ++ rest) → Clean tree
+  clean_expr = kept (IsWritable spaces names) Clean CleanStep clean

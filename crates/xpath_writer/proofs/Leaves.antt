@@ -21,9 +21,9 @@ use Rattle.xpath_tokens.specs.declared.tokens.Kind.{Kind}
 use Rattle.xpath_tokens.specs.declared.tokens.Kind.TheVariants as kind
 use Rattle.xpath_tokens.specs.Spelling.{IsLocalName}
 use Rattle.serna_kinds.specs.Blanks.{is_space}
-use Rattle.serna_kinds.specs.Qualified.{is_digit, begins_name, continues_name, parted, uri_for, uri_or_none}
+use Rattle.serna_kinds.specs.Qualified.{is_digit, begins_name, continues_name, parted, uri_for, uri_or_none, attribute_name}
 use Rattle.xpath_tokens.specs.Tokens.{qualified, name_length, begins_any, named, name_before, without_spaces, word, literal, pointed, wrong, number, ends_operand, front}
-use Rattle.xpath_tokens.specs.Symbols.{uri_in, name_in, text_or_none, inside}
+use Rattle.xpath_tokens.specs.Symbols.{uri_in, text_or_none, inside}
 use Rattle.xpath_tokens.proofs.WordFronts.{run_stops, local_stops, some_local, colon_any, within_word, name_first, digit_first}
 use Rattle.xpath_writer.specs.Writing.{Word, Written, spelled, qualified_text, quote_for, quoted, name_text, prefix_for, test_words, shown, begins_token, AreTokens, Lexes, IsReadAs, IsLeaf}
 use Rattle.xpath_writer.specs.Writable.{HasPrefix, IsWritableName, IsWritableText, IsWritableUri, IsWritableTest, IsNodeType, IsWritable}
@@ -142,7 +142,7 @@ spelling parts = qualified_text parts.prefix parts.local
 
 -- how the name of a part reads back
 pub record Reads (spaces : List Space) (parts : NameParts) (s : List ℕ) : Type 0 where
-  pub is_name : name_in spaces s ≡ parts
+  pub is_name : attribute_name spaces s ≡ parts
   pub length_is : (l : List ℕ) → name_length (s ++ 32 ∷ l) ≡ length s
   pub word_is : (l : List ℕ) → word false (s ++ 32 ∷ l) ≡ (name_before (without_spaces (32 ∷ l)), length s)
   pub front_is : (rest : List ℕ) → front false (s ++ rest) ≡ word false (s ++ rest)

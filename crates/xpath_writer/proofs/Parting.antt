@@ -1,5 +1,5 @@
 -- No `/` stands right before an operator's name: there a name would be a step.
-use Rattle.std.proofs.Common.{◌≡◌, ◌+◌, ◌&&◌, ◌==◌, ℕ, zero, suc, pred, Bool, true, false, cond, List, [], ◌∷◌, ◌++◌, get_or, drop, Option, Some, None, refl, ap, ◌∙◌}
+use Rattle.std.proofs.Common.{◌≡◌, ◌+◌, ◌&&◌, ℕ, zero, suc, pred, Bool, true, false, cond, List, [], ◌∷◌, ◌++◌, get_or, drop, Option, Some, None, refl, ap, ◌∙◌}
 use Rattle.std.specs.Map.{lookup}
 use Rattle.std.specs.Str.{bytes_eq}
 use Rattle.serna_kinds.specs.Names.{NameParts, Space}
@@ -16,20 +16,10 @@ use Rattle.xpath_tokens.specs.Tokens.{begins_any, local_length, name_length, nam
 use Rattle.xpath_writer.specs.Writing.{is_named}
 use Rattle.xpath_writer.proofs.Shallow.{is_slash_in, is_named_in, begins_named, Apart}
 use Rattle.xpath_tokens.proofs.Spelled.{front_spelled}
+use Rattle.xpath_tokens.proofs.WordFronts.{before_by}
 
 unnamed_before : (l : List ℕ) → is_named (name_before l) ≡ false
-unnamed_before [] = refl
-unnamed_before (b ∷ []) = go (b == 40)
-  where
-    go : (v : Bool) → is_named (cond v kind.Callee kind.Name) ≡ false
-    go true = refl
-    go false = refl
-unnamed_before (b ∷ c ∷ l) = go (b == 40) ((b == 58) && (c == 58))
-  where
-    go : (v w : Bool) → is_named (cond v kind.Callee (cond w kind.AxisName kind.Name)) ≡ false
-    go true w = refl
-    go false true = refl
-    go false false = refl
+unnamed_before = before_by (λ k. is_named k ≡ false) refl refl refl
 
 unnamed_word : (text : List ℕ) → is_named (word false text).0 ≡ false
 unnamed_word text = go (begins_any (drop (local_length text) text)) (name_length text) (local_length text + 2)

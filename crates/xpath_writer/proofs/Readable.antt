@@ -1,5 +1,5 @@
 -- What stands for a leaf in a text that was read can be written.
-use Rattle.std.proofs.Common.{◌≡◌, ◌<◌, ◌+◌, ◌==◌, ◌&&◌, ◌||◌, ◌⊎◌, ℕ, zero, suc, not, Bool, true, false, cond, nat_lt, IsTrue, List, [], ◌∷◌, ◌++◌, length, length-append, get_or, Option, Some, None, is_some, inl, inr, sym, refl, ap, ◌∙◌, subst, arith, encode_utf8_all, codes}
+use Rattle.std.proofs.Common.{◌≡◌, ◌<◌, ◌==◌, ◌&&◌, ◌||◌, ◌⊎◌, ℕ, zero, suc, Bool, true, false, cond, nat_lt, IsTrue, List, [], ◌∷◌, ◌++◌, length, length-append, get_or, Option, Some, None, is_some, option_map, inl, inr, sym, refl, ap, ◌∙◌, subst, arith, encode_utf8_all, codes}
 use Rattle.std.specs.List.{AllByRecursion, list_any, list_all}
 use Rattle.std.specs.Map.{lookup}
 use Rattle.std.specs.Str.{bytes_eq, chars, IsUtf8, IsCharBoundary}
@@ -14,12 +14,13 @@ use Rattle.xpath_tokens.specs.declared.tokens.Token.{Token}
 use Rattle.xpath_tokens.specs.declared.tokens.Kind.{Kind}
 use Rattle.xpath_tokens.specs.declared.tokens.Kind.TheVariants as kind
 use Rattle.xpath_tokens.specs.Spelling.{IsLocalName, IsName, IsLiteral, IsSpelled}
-use Rattle.xpath_tokens.specs.Tokens.{run, local_length}
 use Rattle.xpath_tokens.specs.declared.faults.ExprRule.TheVariants as rule
-use Rattle.serna_kinds.specs.Qualified.{continues_name, begins_name, prefix_of, local_of, parted, uri_for, attribute_uri, uri_or_none, xml_prefix, xml_uri}
-use Rattle.xpath_tokens.specs.Symbols.{uri_in, name_in, inside, text_or_none, without_dollar, number_value, callee_or, node_types, axis_or_wrong, axes, symbol_of}
+use Rattle.serna_kinds.specs.Qualified.{continues_name, begins_name, is_local_name, is_name, prefix_of, local_of, parted, uri_for, attribute_uri, attribute_name, uri_or_none, xml_prefix, xml_uri}
+use Rattle.xpath_tokens.specs.Symbols.{uri_in, inside, text_or_none, without_dollar, number_value, callee_or, node_types, axis_or_wrong, axes, symbol_of}
+use Rattle.xpath_tokens.specs.declared.faults.ReadAs.TheVariants as how
 use Rattle.xpath_tokens.specs.Faults.{prefix_fault, fault_at}
-use Rattle.xpath_writer.specs.Writing.{quote_for, is_local_name, stands_for, declares, prefix_among, prefix_for}
+use Rattle.xpath_writer.specs.Writing.{quote_for, stands_for, declares, prefix_among, prefix_for}
+use Rattle.xpath_tokens.proofs.Comparing.{same_number, equal_number}
 use Rattle.xpath_tokens.proofs.WordLemmas.{number_low}
 use Rattle.xpath_writer.proofs.Leaves.{prefix_from, local_from, parted_quote, parted_plain, parted_prefixed}
 use Rattle.xpath_writer.specs.Writable.{HasPrefix, IsWritableName, IsWritableText, IsWritableUri, IsWritable, IsNodeType}
@@ -100,7 +101,7 @@ bound x spaces (c ∷ cs) is e = go (uri_for spaces (c ∷ cs)) e
     go None h = absurd (no_text x h)
     go (Some u) h = refl
 
-name_parts_are : (spaces : List Space) (s : List ℕ) → IsName s → prefix_fault spaces s ≡ None → IsLocalName (local_of s) × HasPrefix spaces (name_in spaces s)
+name_parts_are : (spaces : List Space) (s : List ℕ) → IsName s → prefix_fault spaces s ≡ None → IsLocalName (local_of s) × HasPrefix spaces (attribute_name spaces s)
 name_parts_are spaces s (inl is) e =
     let none = parted_plain s is in
     let p : prefix_of s ≡ [] = ap prefix_from none in
@@ -115,44 +116,35 @@ name_parts_are spaces s (inr (prefix, local, prefix_is, local_is, whole)) e =
 
 -- Prefixes of a URI
 
-run_full : (p : ℕ → Bool) (xs : List ℕ) → AllByRecursion (λ b. IsTrue (p b)) xs → run p xs ≡ length xs
-run_full p [] all = refl
-run_full p (x ∷ xs) all =
-    let more : 1 + length xs ≡ suc (length xs) = omega arith in
-    ap (λ v. cond (not (not v)) (1 + run p xs) 0) all.0 ∙ ap (λ n. 1 + n) (run_full p xs all.1) ∙ more
+all_pass : (p : ℕ → Bool) (xs : List ℕ) → AllByRecursion (λ b. IsTrue (p b)) xs → list_all p xs ≡ true
+all_pass p [] all = refl
+all_pass p (x ∷ xs) all = ap (λ v. v && list_all p xs) all.0 ∙ all_pass p xs all.1
 
-run_all : (p : ℕ → Bool) (xs : List ℕ) → run p xs ≡ length xs → AllByRecursion (λ b. IsTrue (p b)) xs
-run_all p [] e = tt
-run_all p (x ∷ xs) e = go (p x) refl e (run_all p xs)
-  where
-    go : (v : Bool) → p x ≡ v → cond (not (not v)) (1 + run p xs) 0 ≡ suc (length xs) → (run p xs ≡ length xs → AllByRecursion (λ b. IsTrue (p b)) xs) → IsTrue (p x) × AllByRecursion (λ b. IsTrue (p b)) xs
-    go true f h rest = (f, rest (omega arith))
-    go false f h rest = absurd (omega arith)
-
-same_number : (n : ℕ) → (n == n) ≡ true
-same_number n = grind (arith, nat_tests)
-
-equal_numbers : (m n : ℕ) → (m == n) ≡ true → m ≡ n
-equal_numbers m n h = grind (arith, nat_tests)
-
-some_bytes : (n : ℕ) → nat_lt 0 (suc n) ≡ true
-some_bytes n = grind (arith, nat_tests)
+pass_all : (p : ℕ → Bool) (xs : List ℕ) → list_all p xs ≡ true → AllByRecursion (λ b. IsTrue (p b)) xs
+pass_all p [] e = tt
+pass_all p (x ∷ xs) e = let parts = both (p x) (list_all p xs) e in (parts.0, pass_all p xs parts.1)
 
 local_passes : (s : List ℕ) → IsLocalName s → is_local_name s ≡ true
 local_passes [] is = absurd is
-local_passes (b ∷ bs) is =
-    ap (λ v. v && (local_length (b ∷ bs) == suc (length bs))) (some_bytes (length bs))
-    ∙ ap (λ v. cond v (suc (run continues_name bs)) 0 == suc (length bs)) is.0
-    ∙ ap (λ n. suc n == suc (length bs)) (run_full continues_name bs is.1)
-    ∙ same_number (suc (length bs))
+local_passes (b ∷ bs) is = ap (λ v. v && list_all continues_name bs) is.0 ∙ all_pass continues_name bs is.1
 
 passes_local : (s : List ℕ) → is_local_name s ≡ true → IsLocalName s
 passes_local [] e = absurd (clash (sym e))
-passes_local (b ∷ bs) e = go (begins_name b) refl (equal_numbers (local_length (b ∷ bs)) (suc (length bs)) (both (nat_lt 0 (suc (length bs))) (local_length (b ∷ bs) == suc (length bs)) e).1)
-  where
-    go : (v : Bool) → begins_name b ≡ v → cond v (suc (run continues_name bs)) 0 ≡ suc (length bs) → IsLocalName (b ∷ bs)
-    go true f h = (f, run_all continues_name bs (omega arith))
-    go false f h = absurd (omega arith)
+passes_local (b ∷ bs) e = let parts = both (begins_name b) (list_all continues_name bs) e in (parts.0, pass_all continues_name bs parts.1)
+
+-- a name without a colon is one that is not cut at a colon
+module _ {X : Type 0} (f : X → List ℕ × List ℕ) (r : Option X) (s : List ℕ) (cut : option_map f r ≡ parted 58 s) where
+  pub name_uncut : r ≡ None → is_name s ≡ is_local_name s
+  name_uncut none =
+      ap (λ (o : Option (List ℕ × List ℕ)). elim o [ None ↦ is_local_name s | Some parts ↦ is_local_name parts.0 && is_local_name parts.1 ]) (sym cut ∙ ap (option_map f) none)
+
+  pub cut_none : (x : X) → r ≡ Some x → is_local_name s ≡ false
+  cut_none x some = go (is_local_name s) refl
+    where
+      go : (v : Bool) → is_local_name s ≡ v → v ≡ false
+      go true h =
+          absurd (clash (sym (ap (λ (o : Option X). is_some (option_map f o)) some) ∙ ap (λ (o : Option (List ℕ × List ℕ)). is_some o) (cut ∙ parted_plain s (passes_local s h))))
+      go false h = refl
 
 pub same_bytes : (a : List ℕ) → bytes_eq a a ≡ true
 same_bytes [] = refl
@@ -164,7 +156,7 @@ equal_bytes [] (y ∷ ys) e = cc
 equal_bytes (x ∷ xs) [] e = cc
 equal_bytes (x ∷ xs) (y ∷ ys) e =
     let parts = both (x == y) (bytes_eq xs ys) e in
-    ap (λ b. b ∷ xs) (equal_numbers x y parts.0) ∙ ap (λ l. y ∷ l) (equal_bytes xs ys parts.1)
+    ap (λ b. b ∷ xs) (equal_number x y parts.0) ∙ ap (λ l. y ∷ l) (equal_bytes xs ys parts.1)
 
 -- a declaration of the URI whose prefix stands for it
 declares_own : (spaces : List Space) (uri p : List ℕ) (x : Space) → stands_for spaces uri p ≡ true → bytes_eq x.prefix p ≡ true → x.uri ≡ uri → declares spaces uri x ≡ true
@@ -244,10 +236,10 @@ for_utf8 spaces p u all e = go (bytes_eq p xml_prefix) e
     go false f = uri_utf8 spaces p u all f
 
 module _ (spaces : List Space) (names : List NameParts) where
-  name_writable : (s : List ℕ) → IsName s → prefix_fault spaces s ≡ None → IsStored names (name_in spaces s) → IsWritableName spaces names (id_of names (name_in spaces s))
+  name_writable : (s : List ℕ) → IsName s → prefix_fault spaces s ≡ None → IsStored names (attribute_name spaces s) → IsWritableName spaces names (id_of names (attribute_name spaces s))
   name_writable s is e stored =
       let parts = name_parts_are spaces s is e in
-      record { parts = name_in spaces s; stored = stored; numbered = refl; local_is = parts.0; prefix_is = parts.1 }
+      record { parts = attribute_name spaces s; stored = stored; numbered = refl; local_is = parts.0; prefix_is = parts.1 }
 
   axis_writable : (o : Option Axis) → IsWritable spaces names (axis_or_wrong o)
   axis_writable None = tt
@@ -257,12 +249,12 @@ module _ (spaces : List Space) (names : List NameParts) where
   callee_writable name None e = tt
   callee_writable name (Some t) e = node_type_is (bytes_eq name (codes "node")) (bytes_eq name (codes "text")) (bytes_eq name (codes "comment")) t e
 
-  pub token_writable : (k : Kind) (s : List ℕ) (behind : List Token) → AllByRecursion (λ (x : Space). IsUtf8 x.uri) spaces → IsSpelled k s → IsUtf8 s → fault_at spaces k s behind ≡ None → HasName spaces names k s
+  pub token_writable : (k : Kind) (s : List ℕ) (behind : List Token) → AllByRecursion (λ (x : Space). IsUtf8 x.uri) spaces → IsSpelled k s → IsUtf8 s → fault_at how.Expression spaces k s behind ≡ None → HasName spaces names k s
       → IsWritable spaces names (symbol_of spaces names k s)
   token_writable kind.Name s behind uris is utf8 e stored = name_writable s is e stored
   token_writable kind.Variable s behind uris is utf8 e stored =
       let same : without_dollar s ≡ is.0 = ap without_dollar is.2 in
-      inl (id_of names (name_in spaces (without_dollar s)), refl, name_writable (without_dollar s) (subst IsName (sym same) is.1) e stored)
+      inl (id_of names (attribute_name spaces (without_dollar s)), refl, name_writable (without_dollar s) (subst IsName (sym same) is.1) e stored)
   token_writable kind.Literal s behind uris is utf8 e stored = inr (inl (chars (inside s), refl, literal_text s is utf8))
   token_writable kind.Number s behind uris is utf8 e stored = inr (inr (number_value s, refl, number_low s))
   token_writable kind.Within s behind uris is utf8 e stored =

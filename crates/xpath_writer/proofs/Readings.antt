@@ -11,6 +11,7 @@ use Rattle.xpath_tokens.specs.Spelling.{IsSpelled, MakeUp}
 use Rattle.serna_kinds.specs.Blanks.{is_space}
 use Rattle.xpath_tokens.specs.Tokens.{front, ends_operand, token_at, tokens_from, tokens_of, IsCut}
 use Rattle.xpath_tokens.specs.Symbols.{written_at, symbols_at}
+use Rattle.xpath_tokens.specs.declared.faults.ReadAs.TheVariants as how
 use Rattle.xpath_tokens.specs.Faults.{fault_at, fault_among}
 use Rattle.xpath_writer.specs.Writable.{IsWritable}
 use Rattle.xpath_tokens.specs.Named.{HasName}
@@ -88,13 +89,13 @@ module _ (spaces : List Space) (names : List NameParts) (text : List ℕ) (utf8 
   cut_utf8 : (t : Token) → IsCut text t → IsUtf8 (written_at text t)
   cut_utf8 t is = IsUtf8-take (drop t.start text) (t.end - t.start) (IsUtf8-drop text t.start utf8 is.1) is.2
 
-  all_writable : (tokens : List Token) (before left : List ℕ) → text ≡ before ++ left → MakeUp (length before) tokens left → AllByRecursion (IsCut text) tokens → fault_among spaces text tokens ≡ None
+  all_writable : (tokens : List Token) (before left : List ℕ) → text ≡ before ++ left → MakeUp (length before) tokens left → AllByRecursion (IsCut text) tokens → fault_among how.Expression spaces text tokens ≡ None
       → AllByRecursion (λ t. HasName spaces names t.kind (written_at text t)) tokens → AllByRecursion (IsWritable spaces names) (symbols_at spaces names text tokens)
   all_writable [] before left whole up cut fault has = tt
   all_writable (t ∷ ts) before left whole (gap, written, rest, spaces_are, left_is, spelled, some, start, end, up) cut fault has =
       let all : text ≡ before ++ (gap ++ (written ++ rest)) = whole ∙ ap (λ l. before ++ l) left_is in
       let this = spelled_at t before gap written rest all start end in
-      let faults = no_later (fault_at spaces t.kind (written_at text t) ts) t.start (fault_among spaces text ts) fault in
+      let faults = no_later (fault_at how.Expression spaces t.kind (written_at text t) ts) t.start (fault_among how.Expression spaces text ts) fault in
       let later = before ++ (gap ++ written) in
       let place : t.end ≡ length later = end ∙ ap (λ s. s + length written) start ∙ sym (length-append before (gap ++ written) ∙ ap (λ n. length before + n) (length-append gap written) ∙ regroup (length before) (length gap) (length written)) in
       let split : text ≡ later ++ rest = all ∙ ap (λ l. before ++ l) (sym (append_assoc gap written rest)) ∙ sym (append_assoc before (gap ++ written) rest) in (
@@ -105,6 +106,6 @@ module _ (spaces : List Space) (names : List NameParts) (text : List ℕ) (utf8 
       regroup : (a b c : ℕ) → a + (b + c) ≡ (a + b) + c
       regroup a b c = omega arith
 
-  pub text_writable : fault_among spaces text (tokens_of text) ≡ None → AllByRecursion (λ t. HasName spaces names t.kind (written_at text t)) (tokens_of text)
+  pub text_writable : fault_among how.Expression spaces text (tokens_of text) ≡ None → AllByRecursion (λ t. HasName spaces names t.kind (written_at text t)) (tokens_of text)
       → AllByRecursion (IsWritable spaces names) (symbols_at spaces names text (tokens_of text))
   text_writable = all_writable (tokens_of text) [] text refl (make_up text) (all_cut text utf8)

@@ -7,7 +7,7 @@ use Rattle.std.specs.List.{flat_map, list_any}
 use Rattle.std.specs.Str.{bytes_eq}
 use Rattle.std.specs.Fmt.{decimal}
 use Rattle.serna_kinds.specs.Names.{NameParts, Space}
-use Rattle.serna_kinds.specs.Qualified.{xml_prefix, xml_uri}
+use Rattle.serna_kinds.specs.Qualified.{is_local_name, xml_prefix, xml_uri}
 use Rattle.serna_kinds.specs.declared.cells.NameId.{NameId}
 use Rattle.serna_kinds.specs.declared.expressions.Axis.{Axis}
 use Rattle.serna_kinds.specs.declared.expressions.Axis.TheVariants as axis
@@ -35,9 +35,9 @@ use Rattle.xpath_tokens.specs.declared.symbol.Symbol.TheVariants as symbol
 use Rattle.xpath_tokens.specs.declared.tokens.Kind.{Kind}
 use Rattle.xpath_tokens.specs.declared.tokens.Kind.TheVariants as kind
 use Rattle.serna_kinds.specs.Blanks.{is_space}
-use Rattle.xpath_tokens.specs.Tokens.{local_length, front, ends_operand, name_before, without_spaces}
+use Rattle.xpath_tokens.specs.Tokens.{front, ends_operand, name_before, without_spaces}
 use Rattle.xpath_tokens.specs.Symbols.{uri_in, symbol_of}
-use Rattle.xpath_syntax.specs.Trees.{compare_level, arith_level, rank}
+use Rattle.xpath_parser.specs.Trees.{compare_level, arith_level, rank}
 
 -- a token by its kind and as it is written
 abbrev pub Word : Type 0
@@ -168,10 +168,6 @@ quoted text = quote_for text ∷ (text ++ quote_for text ∷ [])
 abbrev pub qualified_text : List ℕ → List ℕ → List ℕ
 qualified_text [] local = local
 qualified_text (c ∷ prefix) local = (c ∷ prefix) ++ 58 ∷ local
-
--- whether these bytes are a name without a colon (Namespaces in XML 1.0, NCName)
-abbrev pub is_local_name : List ℕ → Bool
-is_local_name text = nat_lt 0 (length text) && (local_length text == length text)
 
 -- An operand and what it is written as
 

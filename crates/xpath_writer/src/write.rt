@@ -8,16 +8,21 @@ ghost use Rattle.std.specs.Fmt.{decimal};
 ghost use Rattle.xpath_tokens.specs.declared.tokens.Kind.TheVariants as kind;
 ghost use Rattle.std.specs.Str.{IsUtf8};
 ghost use Rattle.serna_kinds.specs.Lookups.{AreTexts};
+ghost use Rattle.serna_kinds.specs.Qualified.{is_local_name};
 ghost use Rattle.xpath_tokens.specs.Tokens.{tokens_of};
 ghost use Rattle.xpath_tokens.specs.Named.{HasNames};
 ghost use Rattle.xpath_syntax.specs.Reading.{IsReading};
-ghost use Rattle.xpath_syntax.specs.Trees.{compare_level, arith_level, rank};
-ghost use Rattle.xpath_writer.specs.Writing.{WrittenStep, spelled, mark_text, mark, operator_kind, is_named, axis_text, function_text, text_function_text, quote_for, quoted, qualified_text, is_local_name, operand, further_operands, joined_by, compares_rank, ariths_rank, sign_words, predicate_words, argument_words, is_any_node, is_bare, is_descendant_or_self, is_empty, axis_words, short_kind, short_for, type_words, slash_words, is_slash, steps_words, root_words, absolute_words, name_text, stands_for, declared_prefix, prefix_among, prefix_for, test_words, shown, shown_step, written, before_next};
+ghost use Rattle.xpath_parser.specs.Trees.{level_of, rank};
+ghost use Rattle.xpath_writer.specs.Writing.{WrittenStep, spelled, mark_text, mark, operator_kind, is_named, axis_text, function_text, text_function_text, quote_for, quoted, qualified_text, operand, further_operands, joined_by, compares_rank, ariths_rank, sign_words, predicate_words, argument_words, is_any_node, is_bare, is_descendant_or_self, is_empty, axis_words, short_kind, short_for, type_words, slash_words, is_slash, steps_words, root_words, absolute_words, name_text, stands_for, declared_prefix, prefix_among, prefix_for, test_words, shown, shown_step, written, before_next};
 
 use crate::NoMemory;
-use serna_kinds::{Axis, Chars, CompareOp, NameId, NameTable, NodeTest, Spaces, TextFunction};
+use serna_kinds::{
+    Axis, Chars, CompareOp, NameId, NameTable, NodeTest, Spaces, TextFunction, is_name, parted,
+};
+use sqlite_items::Items;
 use std::alloc::Global;
-use xpath_tokens::{Kind, Operator, local_length, uri_in};
+use xpath_parser::{level_of, rank};
+use xpath_tokens::{Kind, Operator, uri_in};
 use xpath_trees::{ArithOp, Expr, Function, PathStart, Signs, Step};
 
 // The prefix `xml` and its URI (Namespaces in XML 1.0, section 3).
@@ -241,12 +246,14 @@ fn push_qualified(out: &mut String, prefix: &str, local: &str) -> Result<(), NoM
     push_word(out, local)
 }
 
-/// Whether the text is a name without a colon.
+/// Whether the text is a name without a colon (Namespaces in XML 1.0, NCName).
 fn is_local_name(text: &str) -> bool
     ensures { result ≡ is_local_name text.now }
 {
-    let bytes = text.as_bytes();
-    0 < bytes.len() && local_length(bytes) == bytes.len()
+    match parted(':', text) {
+        Some(_) => false,
+        None => is_name(text),
+    }
 }
 
 /// Whether the prefix is a name and stands for the URI.
@@ -457,30 +464,11 @@ fn before_next(operator: Option<Operator>, before: bool) -> bool
     }
 }
 
-fn compare_rank(op: CompareOp) -> u8
-    ensures { result ≡ rank (compare_level op) }
-{
-    match op {
-        CompareOp::Equal | CompareOp::NotEqual => 3,
-        CompareOp::Less | CompareOp::LessOrEqual | CompareOp::Greater | CompareOp::GreaterOrEqual =>
-            4,
-    }
-}
-
-fn arith_rank(op: ArithOp) -> u8
-    ensures { result ≡ rank (arith_level op) }
-{
-    match op {
-        ArithOp::Add | ArithOp::Subtract => 5,
-        ArithOp::Multiply | ArithOp::Remainder => 6,
-    }
-}
-
 fn compares_rank(others: &[(CompareOp, Expr)]) -> u8
     ensures { result ≡ compares_rank others.now }
 {
     match others.first() {
-        Some((op, _)) => compare_rank(*op),
+        Some((op, _)) => rank(level_of(Operator::Compare(*op))),
         None => 3,
     }
 }
@@ -489,7 +477,7 @@ fn ariths_rank(others: &[(ArithOp, Expr)]) -> u8
     ensures { result ≡ ariths_rank others.now }
 {
     match others.first() {
-        Some((op, _)) => arith_rank(*op),
+        Some((op, _)) => rank(level_of(Operator::Arith(*op))),
         None => 5,
     }
 }
@@ -664,17 +652,17 @@ fn push_further(
 fn push_joined(
     out: &mut String,
     op: Operator,
-    operands: &[Expr],
-    least: u8,
+    operands: &Items<Expr>,
     before: bool,
     spaces: &Spaces,
     names: &NameTable,
 ) -> Result<(), NoMemory>
-    ensures { OnOk result (string_bytes out.new ≡ string_bytes out.old ++ spelled (joined_by op least before (map (shown spaces.now names.now) operands.now))) }
+    ensures { OnOk result (string_bytes out.new ≡ string_bytes out.old ++ spelled (joined_by op (rank (level_of op) + 1) before (map (shown spaces.now names.now) operands.now))) }
 {
-    let Some((first, others)) = operands.split_first() else {
+    let Some((first, others)) = operands.as_slice().split_first() else {
         return Ok(());
     };
+    let least = rank(level_of(op)) + 1;
     let next = before_next(same_at(op, others, 0), before);
     push_operand(out, first, least, next, spaces, names)?;
     for (index, operand) in others.iter().enumerate() {
@@ -809,24 +797,8 @@ fn push_expr(
     ensures { OnOk result (string_bytes out.new ≡ string_bytes out.old ++ spelled ((shown spaces.now names.now expr.now).words before)) }
 {
     match expr {
-        Expr::Or(operands) => push_joined(
-            out,
-            Operator::Or,
-            operands.as_slice(),
-            2,
-            before,
-            spaces,
-            names,
-        ),
-        Expr::And(operands) => push_joined(
-            out,
-            Operator::And,
-            operands.as_slice(),
-            3,
-            before,
-            spaces,
-            names,
-        ),
+        Expr::Or(operands) => push_joined(out, Operator::Or, operands, before, spaces, names),
+        Expr::And(operands) => push_joined(out, Operator::And, operands, before, spaces, names),
         Expr::Compare(first, others) => {
             let others = others.as_slice();
             let least = compares_rank(others) + 1;
@@ -842,15 +814,7 @@ fn push_expr(
             push_computed(out, others, least, before, spaces, names)
         }
         Expr::Negate(signs, inner) => push_negated(out, *signs, inner.get(), before, spaces, names),
-        Expr::Union(operands) => push_joined(
-            out,
-            Operator::Union,
-            operands.as_slice(),
-            9,
-            before,
-            spaces,
-            names,
-        ),
+        Expr::Union(operands) => push_joined(out, Operator::Union, operands, before, spaces, names),
         Expr::Path(start, steps) => match start {
             PathStart::Context => push_steps(out, steps.as_slice(), None, spaces, names),
             PathStart::Root => push_absolute(out, steps.as_slice(), before, spaces, names),
@@ -866,13 +830,9 @@ fn push_expr(
         Expr::Text(text) => push_literal(out, text.as_text()),
         Expr::Number(number) => push_number(out, *number),
         Expr::Variable(name) => push_variable(out, *name, names),
-        Expr::Call(function, arguments) => push_call(
-            out,
-            *function,
-            arguments.as_slice(),
-            spaces,
-            names,
-        ),
+        Expr::Call(function, arguments) => {
+            push_call(out, *function, arguments.as_slice(), spaces, names)
+        }
     }
 }
 

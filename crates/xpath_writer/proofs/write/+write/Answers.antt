@@ -7,6 +7,7 @@ use Rattle.xpath_trees.specs.declared.expr.Expr.{Expr}
 use Rattle.xpath_trees.specs.declared.expr.ArithOp.{ArithOp}
 use Rattle.xpath_trees.specs.declared.expr.PathStart.{PathStart}
 use Rattle.xpath_trees.specs.declared.expr.Step.{Step}
+use Rattle.xpath_parser.specs.Trees.{rank}
 use Rattle.xpath_tokens.specs.declared.symbol.Operator.{Operator}
 use Rattle.xpath_tokens.specs.declared.symbol.Operator.TheVariants as operator
 use Rattle.xpath_tokens.specs.declared.tokens.Kind.TheVariants as kind
@@ -83,8 +84,9 @@ push_joined-loop-index-preserved t c =
     let op : Expr → Operator = λ e. c.args.op in
     let w = shown c.args.spaces.now c.args.names.now in
     let flag = c.before_next-next-in-loop-index.result in
-    moved _ _ _ (mark (operator_kind c.args.op) ∷ operand c.args.least flag (w x)) _ (others_from op w c.args.least c.args.before (drop (i + 1) xs)) c.in_ok-push_further.ensures
-    (further_next op w c.args.least c.args.before xs i x flag c.loop-index-test.true c.index-others-index.is (c.before_next-next-in-loop-index.ensures ∙ ap (λ o. before_next o c.args.before) c.same_at-in-loop-index.ensures)) c.loop-index.invariant
+    let least = c.rank-least.result + 1 in
+    moved _ _ _ (mark (operator_kind c.args.op) ∷ operand least flag (w x)) _ (others_from op w least c.args.before (drop (i + 1) xs)) c.in_ok-push_further.ensures
+    (further_next op w least c.args.before xs i x flag c.loop-index-test.true c.index-others-index.is (c.before_next-next-in-loop-index.ensures ∙ ap (λ o. before_next o c.args.before) c.same_at-in-loop-index.ensures)) c.loop-index.invariant
 
 pub push_joined-returns : goal.push_joined-returns
 push_joined-returns t c =
@@ -92,11 +94,13 @@ push_joined-returns t c =
     let op : Expr → Operator = λ e. c.args.op in
     let w = shown c.args.spaces.now c.args.names.now in
     let first = w c.in-Some.first.now in
-    let all = all_moved _ _ _ (ap (others_from op w c.args.least c.args.before) (drop_all c.loop-index.index xs c.loop-index-test.false)) c.loop-index.invariant in
-    chain_written op w c.args.least c.args.before (string_bytes c.args.out.now) (string_bytes c.push_operand.new.out) (string_bytes c.loop-index.out) first xs c.before_next-next.result c.in_ok-push_operand.ensures
+    let least = c.rank-least.result + 1 in
+    let all = all_moved _ _ _ (ap (others_from op w least c.args.before) (drop_all c.loop-index.index xs c.loop-index-test.false)) c.loop-index.invariant in
+    chain_written op w least c.args.before (string_bytes c.args.out.now) (string_bytes c.push_operand.new.out) (string_bytes c.loop-index.out) first xs c.before_next-next.result c.in_ok-push_operand.ensures
     (c.before_next-next.ensures ∙ ap (λ o. before_next o c.args.before) c.same_at.ensures) all
-    ∙ ap (λ os. string_bytes c.args.out.now ++ spelled (joined c.args.least c.args.before first os)) (sym (map_map w (λ (e : Written). (c.args.op, e)) xs))
-    ∙ ap (λ (es : List Expr). string_bytes c.args.out.now ++ spelled (joined_by c.args.op c.args.least c.args.before (map w es))) (sym c.in-Some.ensures.cases.0)
+    ∙ ap (λ os. string_bytes c.args.out.now ++ spelled (joined least c.args.before first os)) (sym (map_map w (λ (e : Written). (c.args.op, e)) xs))
+    ∙ ap (λ (es : List Expr). string_bytes c.args.out.now ++ spelled (joined_by c.args.op least c.args.before (map w es))) (sym c.in-Some.ensures.cases.0 ∙ c.as_slice.ensures)
+    ∙ ap (λ n. string_bytes c.args.out.now ++ spelled (joined_by c.args.op (n + 1) c.args.before (map w c.args.operands.now))) (c.rank-least.ensures ∙ ap rank c.level_of.ensures)
 
 pub push_compared-loop-index-preserved : goal.push_compared-loop-index-preserved
 push_compared-loop-index-preserved t c =
@@ -153,21 +157,15 @@ push_step-returns t c =
 
 pub push_expr-returns-in-Or : goal.push_expr-returns-in-Or
 push_expr-returns-in-Or t c =
-    let sh = shown c.args.spaces.now c.args.names.now in
-    renamed _ _ _ _ _ (ap (λ (es : List Expr). joined_by operator.Or 2 c.args.before (map sh es)) c.as_slice.ensures ∙ worded c.args.spaces.now c.args.names.now c.args.before _ _ _ c.in-Or.is (shown-Or c.args.spaces.now c.args.names.now c.in-Or.operands))
-    c.push_joined.ensures
+    renamed _ _ _ _ _ (worded c.args.spaces.now c.args.names.now c.args.before _ _ _ c.in-Or.is (shown-Or c.args.spaces.now c.args.names.now c.in-Or.operands)) c.push_joined.ensures
 
 pub push_expr-returns-in-And : goal.push_expr-returns-in-And
 push_expr-returns-in-And t c =
-    let sh = shown c.args.spaces.now c.args.names.now in
-    renamed _ _ _ _ _ (ap (λ (es : List Expr). joined_by operator.And 3 c.args.before (map sh es)) c.as_slice-in-And.ensures ∙ worded c.args.spaces.now c.args.names.now c.args.before _ _ _ c.in-And.is (shown-And c.args.spaces.now c.args.names.now c.in-And.operands))
-    c.push_joined-in-And.ensures
+    renamed _ _ _ _ _ (worded c.args.spaces.now c.args.names.now c.args.before _ _ _ c.in-And.is (shown-And c.args.spaces.now c.args.names.now c.in-And.operands)) c.push_joined-in-And.ensures
 
 pub push_expr-returns-in-Union : goal.push_expr-returns-in-Union
 push_expr-returns-in-Union t c =
-    let sh = shown c.args.spaces.now c.args.names.now in
-    renamed _ _ _ _ _ (ap (λ (es : List Expr). joined_by operator.Union 9 c.args.before (map sh es)) c.as_slice-in-Union.ensures ∙ worded c.args.spaces.now c.args.names.now c.args.before _ _ _ c.in-Union.is (shown-Union c.args.spaces.now c.args.names.now c.in-Union.operands))
-    c.push_joined-in-Union.ensures
+    renamed _ _ _ _ _ (worded c.args.spaces.now c.args.names.now c.args.before _ _ _ c.in-Union.is (shown-Union c.args.spaces.now c.args.names.now c.in-Union.operands)) c.push_joined-in-Union.ensures
 
 pub push_expr-returns-in_ok-push_operand-in-Compare : goal.push_expr-returns-in_ok-push_operand-in-Compare
 push_expr-returns-in_ok-push_operand-in-Compare t c =
@@ -233,7 +231,7 @@ push_expr-returns-in-Context t c =
     let ys = map (shown_step c.args.spaces.now c.args.names.now) steps in
     let b = c.args.before in
     let begun = ap (λ (p : PathStart). shown_start c.args.spaces.now c.args.names.now p b ys) c.in-Context.is ∙ ap (λ (f : Bool → List WrittenStep → List Word). f b ys) (shown-Context c.args.spaces.now c.args.names.now) in
-    renamed _ _ _ _ _ (ap (λ (zs : List Step). steps_words None (map (shown_step c.args.spaces.now c.args.names.now) zs)) c.as_slice-in-Context.ensures
+    renamed _ _ _ _ _ (ap (λ (zs : List Step). steps_words None (map (shown_step c.args.spaces.now c.args.names.now) zs)) c.as_slice.ensures
     ∙ sym begun
     ∙ worded c.args.spaces.now c.args.names.now b _ _ _ c.in-Path.is (shown-Path c.args.spaces.now c.args.names.now c.in-Path.start steps)) c.push_steps.ensures
 

@@ -1,9 +1,0 @@
-use Rattle.std.proofs.Common.{◌≡◌, length}
-use Rattle.xpath_syntax.specs.Machine.{closed}
-use Rattle.xpath_syntax.proofs.step.closed.Given as goal
-
-abbrev pub invariant-loop-top : goal.invariant-loop-top
-invariant-loop-top l = closed l.least l.tree l.stack ≡ closed l.least l.fn.tree l.fn.stack
-
-abbrev pub decreases-loop-top : goal.decreases-loop-top
-decreases-loop-top l = length l.stack
