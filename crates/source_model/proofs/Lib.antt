@@ -1,2 +1,12 @@
+pub mod Below
+pub mod Children
 pub mod NamesGrown
+pub mod Ordered
+pub mod Parents
+pub mod Parting
+pub mod PathOrder
+pub mod Placed
 pub mod Spots
+pub mod Steps
+pub mod Pairs
+pub mod ToldBack

@@ -1,8 +1,16 @@
+pub mod Axes
 pub mod Cells
 pub mod Changes
 pub mod Codes
+pub mod DocumentOrder
+pub mod Logged
+pub mod Attributes
+pub mod Consistent
 pub mod Named
+pub mod Paths
 pub mod PlainText
 pub mod Proper
 pub mod Sees
 pub mod Source
+pub mod WorkedAxes
+pub mod Told

@@ -1,5 +1,5 @@
 -- The names of a source, and when a table has them.
-use Rattle.std.specs.Prelude.{List, [], ◌∷◌, ◌++◌, map, IsSome, slice_get}
+use Rattle.std.specs.Prelude.{List, [], ◌∷◌, ◌++◌, map, Option, Some, None, IsSome, slice_get}
 use Rattle.std.specs.List.{AllByRecursion}
 use Rattle.serna_kinds.specs.declared.cells.NameId.{NameId}
 use Rattle.serna_kinds.specs.declared.cells.AttrPair.{AttrPair}
@@ -21,3 +21,8 @@ names_in (node n body kids rest) = own_names body ++ (names_in kids ++ names_in 
 -- each number is one of the table's
 abbrev pub AreKnown : List NameParts → List NameId → Type 0
 AreKnown names ids = AllByRecursion (λ (id : NameId). IsSome (slice_get names id.0)) ids
+
+-- a name, where there is one, is in the table
+abbrev pub HasName : List NameParts → Option NameId → Type 0
+HasName names None = Unit {0}
+HasName names (Some id) = IsSome (slice_get names id.0)
