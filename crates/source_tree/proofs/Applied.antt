@@ -5,7 +5,7 @@ use Rattle.std.proofs.lemmas.List.{set-append_left, length-set, length-map, nil_
 use Rattle.std.proofs.lemmas.Str.{encodes-append}
 use Rattle.std.proofs.lemmas.Option.{slice_get_within, get_or_from_slice_get, same_Some}
 use Rattle.std.specs.List.{insert}
-use Rattle.std.specs.Option.{option_map, option_and_then}
+use Rattle.std.specs.Option.{option_map}
 use Rattle.serna_kinds.specs.Limits.{text_limit, node_limit, depth_limit}
 use Rattle.serna_kinds.specs.declared.cells.NameId.{NameId}
 use Rattle.serna_kinds.specs.declared.cells.NodeName.{NodeName}
@@ -15,18 +15,20 @@ use Rattle.serna_kinds.specs.Texts.{IsPlaceIn, inserted}
 use Rattle.serna_kinds.proofs.TextLemmas.{inserted-at}
 use Rattle.source_model.specs.Source.{Body, Root, Element, Text, Comment, Forest, none, node, Source, numbers}
 use Rattle.source_model.specs.Cells.{Spot, named, or_else, spot_in, spot_of}
-use Rattle.source_model.specs.Changes.{characters, text_at, with_text, with_kids, inserted_at, greatest}
+use Rattle.source_model.specs.Changes.{with_characters, text_at, with_text, with_kids, inserted_at, greatest}
 use Rattle.source_model.specs.Proper.{uses, depth_of, IsShort, AreNodes, IsTop, IsProper}
 use Rattle.source_tree.specs.declared.node.Node.{Node}
 use Rattle.source_tree.specs.declared.node.NodeBody.{NodeBody}
 use Rattle.source_tree.specs.declared.node.NodeBody.TheVariants as stored
 use Rattle.source_tree.specs.declared.prim.SubItem.{SubItem}
 use Rattle.source_tree.specs.declared.prim.SubItem.TheVariants as item
-use Rattle.source_tree.specs.Arena.{Slot, slot_for, source_of, with_spaces, stored_body, node_for, AreStored, AreLeaves, IsArena, leaf}
+use Rattle.source_tree.specs.Arena.{Slot, slot_for, source_of, with_spaces, stored_body, node_for, AreStored, IsArena, leaf}
+use Rattle.source_model.specs.Consistent.{AreLeaves}
 use Rattle.source_tree.specs.Changing.{HasTextAt, TextInserted, HasKidsAt, LeafAdded, IsInserted, IsLeaf, IsBodyOf}
-use Rattle.source_tree.specs.Prims.{IsElement, HasPlace, HasRoom, IsNewLeaf, subtree, with_tree, with_nodes}
+use Rattle.source_tree.specs.Prims.{HasPlace, HasRoom, IsNewLeaf, subtree, with_tree, with_nodes}
 use Rattle.source_tree.proofs.Numbering.{slice_get_at}
-use Rattle.source_tree.proofs.Around.{at_same, at_other, count_same, count_other, Around, below, plug, uses-plug, uses-le-plug, numbers-plug, depth_of-plug, AreLeaves-plug, AreNodes-plug, IsTop-plug, outside_node, spot_used, Found, found}
+use Rattle.source_tree.proofs.Around.{at_same, at_other, count_same, count_other, Around, below, plug, uses-plug, uses-le-plug, numbers-plug, depth_of-plug, AreLeaves-plug, AreNodes-plug, IsTop-plug, outside_node, spot_used, other_number, other_behind, or_else-none, with_body-root, with_kids-root, Found, found}
+use Rattle.source_tree.proofs.Inside.{spot_text, element_body}
 use Rattle.source_tree.proofs.Stored.{reads_tree, stored_within, arena_stored, arena_spot}
 
 -- lists with one item changed, and one behind them
@@ -75,12 +77,6 @@ AreStored-outside none old new n up keeps out h = tt
 AreStored-outside (node k body kids rest) old new n up keeps out h =
     let o = outside_node n k body kids rest out in
     (keeps k (slot_for up body kids) (λ e. o.0 (sym e)) h.0, AreStored-outside kids old new n (Some k) keeps o.1 h.1, AreStored-outside rest old new n up keeps o.2 h.2)
-
-pub other_number : (n k x y : ℕ) → 0 < x → (if n == k then 1 else 0) + x + y ≤ 1 → (k ≡ n → ⊥) × (x ≤ 1) × (y ≡ 0)
-other_number n k x y some once = (λ e. let own = count_same n k (sym e) in absurd (omega (arith, own, some, once)), omega (arith, once), omega (arith, some, once))
-
-pub other_behind : (n k x y : ℕ) → 0 < y → (if n == k then 1 else 0) + x + y ≤ 1 → (k ≡ n → ⊥) × (x ≡ 0) × (y ≤ 1)
-other_behind n k x y some once = (λ e. let own = count_same n k (sym e) in absurd (omega (arith, own, some, once)), omega (arith, some, once), omega (arith, once))
 
 AreStored-plug : (a : Around) (f g : Forest) (old new : List Slot) (n : ℕ) (up : Option ℕ) → KeepsOthers n old new → 0 < uses n f → uses n (plug a f) ≤ 1 → numbers g ≡ numbers f →
     ((above : Option ℕ) → AreStored old above f → AreStored new above g) → AreStored old up (plug a f) → AreStored new up (plug a g)
@@ -137,10 +133,6 @@ pub record Standing (nodes : List Slot) (top : Forest) (n : ℕ) (spot : Spot) :
   pub found : Found n spot top
   pub stored : slice_get nodes n ≡ Some (slot_for spot.up spot.body spot.kids)
 
-pub or_else-none : (o : Option Spot) → or_else o None ≡ o
-or_else-none None = refl
-or_else-none (Some spot) = refl
-
 standing : (nodes : List Slot) (arena : IsArena nodes) (n : ℕ) (spot : Spot) → spot_of (source_of nodes) n ≡ Some spot → (spot.body ≡ Root → ⊥) → Standing nodes arena.top n spot
 standing nodes arena n spot e inner =
     let document : Spot = record { up = None; body = Root; kids = arena.top } in
@@ -172,22 +164,6 @@ changed old new arena n a f g is some keeps used same own leaves deep distinct e
     let shallow : depth_of (plug a g) ≤ depth_limit = omega (arith, depth, depth_old) in
     (arena_stored new (plug a g) stored_new leaves_new distinct empty shallow few, reads_tree new (plug a g) stored_new leaves_new shallow)
 
--- the characters of a text
-characters_text : (b : Body) (text : List ℕ) → characters b ≡ Some text → b ≡ Text text
-characters_text Root text e = cc
-characters_text (Element name attributes) text e = cc
-characters_text (Text t) text e = ap Text (same_Some t text e)
-characters_text (Comment t) text e = cc
-
-text_spot : (o : Option Spot) (text : List ℕ) → option_and_then (λ (s : Spot). characters s.body) o ≡ Some text →
-    (up : Option ℕ) × (kids : Forest) × (o ≡ Some (record { up = up; body = Text text; kids = kids }))
-text_spot None text e = cc
-text_spot (Some spot) text e = (spot.up, spot.kids, ap (λ b. Some (record { up = spot.up; body = b; kids = spot.kids })) (characters_text spot.body text e))
-
-pub spot_text : (source : Source) (n : ℕ) (text : List ℕ) → text_at source n ≡ Some text →
-    (up : Option ℕ) × (kids : Forest) × (spot_of source n ≡ Some (record { up = up; body = Text text; kids = kids }))
-spot_text source n text e = text_spot (spot_of source n) text e
-
 -- the text's own entry
 inserted_body : (b : NodeBody) (body : NodeBody) (text : List ℕ) (place : ℕ) (piece : List ℕ) → b ≡ stored.Text text → IsInserted place piece b body → body ≡ stored.Text (inserted place piece text)
 inserted_body b body text place piece is put = subst (λ x. IsInserted place piece x body) is put
@@ -204,15 +180,6 @@ text_entry old new n place piece t up text kids e =
 
 text_keeps : (old new : List Slot) (n place : ℕ) (piece : List ℕ) → TextInserted old n place piece new → KeepsOthers n old new
 text_keeps old new n place piece t k x other e = ap (λ ns. slice_get ns k) t.is ∙ get_set_other old n k (Some (record { up = t.own.up; body = t.body; kids = t.own.kids })) other ∙ e
-
-pub with_text-root : (n : ℕ) (change : List ℕ → List ℕ) (top : Forest) → with_text n change (node 0 Root top none) ≡ node 0 Root (with_text n change top) none
-with_text-root n change top = elim (cases_eq n 0) [
-  | inl same ↦ ap (λ b. node 0 b (with_text n change top) none) (at_same n 0 Root Root same)
-  | inr other ↦ ap (λ b. node 0 b (with_text n change top) none) (at_other n 0 Root Root other)
-]
-
-pub with_kids-root : (n : ℕ) (change : Forest → Forest) (top : Forest) → (n ≡ 0 → ⊥) → with_kids n change (node 0 Root top none) ≡ node 0 Root (with_kids n change top) none
-with_kids-root n change top other = ap (λ f. node 0 Root f none) (at_other n 0 (change top) (with_kids n change top) other)
 
 -- what putting characters into a text makes of the source
 pub record TextStep (old new : List Slot) (n place : ℕ) (piece text : List ℕ) : Type 0 where
@@ -248,7 +215,7 @@ text_step old new n place piece text arena e t =
     let here = spot_used None n (node 0 Root arena.top none) spot (ap (spot_in None n) (sym arena.tree) ∙ at.2) in
     text_keeps old new n place piece t k None (λ same. let e = ap (λ m. uses m (node 0 Root arena.top none)) same in absurd (omega (arith, e, was, here))) (arena.empty k (omega (arith, within, size)) was)) (omega (arith, size, few)) in
     let tree_is : with_text n (inserted place piece) (source_of old).tree ≡ node 0 Root (plug a g) none =
-    ap (with_text n (inserted place piece)) arena.tree ∙ with_text-root n (inserted place piece) arena.top ∙ ap (λ u. node 0 Root u none) (s.found.text (inserted place piece)) in
+    ap (with_text n (inserted place piece)) arena.tree ∙ with_body-root n (with_characters (inserted place piece)) arena.top s.other ∙ ap (λ u. node 0 Root u none) (s.found.body (with_characters (inserted place piece))) in
     record {
       arena = both.0;
       source = source_of-parts new (source_of old) (with_text n (inserted place piece) (source_of old).tree) (source_of old).made (both.1 ∙ sym tree_is) (ap (λ l. l - 1) size ∙ sym (made-source_of old)) (spaces-source_of old);
@@ -535,12 +502,6 @@ new_leaf made (item.Comment number text ∷ items) x body is e b = record {
 }
 new_leaf made (item.Finish ∷ items) x body is e b = absurd is
 
-element_of : (b : Body) → IsElement b → (name : NameId) × (attributes : List AttrPair) × (b ≡ Element name attributes)
-element_of Root is = absurd is
-element_of (Element name attributes) is = (name, attributes, refl)
-element_of (Text text) is = absurd is
-element_of (Comment text) is = absurd is
-
 -- a leaf was added
 pub record LeafDone (new : List Slot) (spaces : List Space) (source : Source) (parent place : ℕ) (items : List SubItem) : Type 0 where
   pub arena : IsArena new
@@ -553,7 +514,7 @@ leaf_done_at : (old new : List Slot) (spaces : List Space) (parent : NodeName) (
     LeafDone new spaces (with_spaces spaces (source_of old)) parent.0 place items
 leaf_done_at old new spaces parent place items x body arena has fresh room is-x is-body t =
     let spot : Spot = has.0 in
-    let kind = element_of spot.body has.2 in
+    let kind = element_body spot.body has.2 in
     let at : spot_of (source_of old) parent.0 ≡ Some (record { up = spot.up; body = Element kind.0 kind.1; kids = spot.kids }) =
     has.1 ∙ ap (λ b. Some (record { up = spot.up; body = b; kids = spot.kids })) kind.2 in
     let l : NewLeaf (source_of old).made items body = new_leaf (source_of old).made items x body fresh is-x is-body in

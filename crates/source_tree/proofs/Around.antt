@@ -5,9 +5,9 @@ use Rattle.std.proofs.lemmas.Option.{same_Some}
 use Rattle.serna_kinds.specs.Names.{NameParts}
 use Rattle.source_model.specs.Source.{Body, Root, Element, Text, Comment, Forest, none, node, numbers}
 use Rattle.source_model.specs.Cells.{Spot, or_else, spot_in}
-use Rattle.source_model.specs.Changes.{with_characters, with_text, with_kids}
+use Rattle.source_model.specs.Changes.{with_body, with_kids}
 use Rattle.source_model.specs.Proper.{uses, depth_of, BeginsNoText, AreNodes, AreComments, IsTop}
-use Rattle.source_tree.specs.Arena.{AreLeaves}
+use Rattle.source_model.specs.Consistent.{AreLeaves, AreShort}
 
 -- tests of numbers
 pub at_same : {A : Type 0} (n k : ℕ) (x y : A) → n ≡ k → (if n == k then x else y) ≡ x
@@ -75,6 +75,17 @@ AreLeaves-plug (beside k (Element name attributes) kids a) f g some own h = (h.0
 AreLeaves-plug (beside k (Text text) kids a) f g some own h = (h.0, AreLeaves-plug a f g some own h.1)
 AreLeaves-plug (beside k (Comment text) kids a) f g some own h = (h.0, AreLeaves-plug a f g some own h.1)
 
+pub AreShort-plug : (a : Around) (f g : Forest) → (AreShort f → AreShort g) → AreShort (plug a f) → AreShort (plug a g)
+AreShort-plug here f g own h = own h
+AreShort-plug (below k Root a rest) f g own h = (AreShort-plug a f g own h.0, h.1)
+AreShort-plug (below k (Element name attributes) a rest) f g own h = (h.0, AreShort-plug a f g own h.1, h.2)
+AreShort-plug (below k (Text text) a rest) f g own h = (h.0, AreShort-plug a f g own h.1, h.2)
+AreShort-plug (below k (Comment text) a rest) f g own h = (AreShort-plug a f g own h.0, h.1)
+AreShort-plug (beside k Root kids a) f g own h = (h.0, AreShort-plug a f g own h.1)
+AreShort-plug (beside k (Element name attributes) kids a) f g own h = (h.0, h.1, AreShort-plug a f g own h.2)
+AreShort-plug (beside k (Text text) kids a) f g own h = (h.0, h.1, AreShort-plug a f g own h.2)
+AreShort-plug (beside k (Comment text) kids a) f g own h = (h.0, AreShort-plug a f g own h.1)
+
 BeginsNoText-plug : (a : Around) (f g : Forest) → (BeginsNoText f → BeginsNoText g) → BeginsNoText (plug a f) → BeginsNoText (plug a g)
 BeginsNoText-plug here f g own h = own h
 BeginsNoText-plug (below k Root a rest) f g own h = h
@@ -127,13 +138,13 @@ not_here n k x y e = (λ same. let own = count_same n k same in absurd (omega (a
 pub outside_node : (n k : ℕ) (body : Body) (kids rest : Forest) → uses n (node k body kids rest) ≡ 0 → (n ≡ k → ⊥) × (uses n kids ≡ 0) × (uses n rest ≡ 0)
 outside_node n k body kids rest e = not_here n k (uses n kids) (uses n rest) e
 
-pub with_text-outside : (n : ℕ) (change : List ℕ → List ℕ) (f : Forest) → uses n f ≡ 0 → with_text n change f ≡ f
-with_text-outside n change none e = refl
-with_text-outside n change (node k body kids rest) e =
+pub with_body-outside : (n : ℕ) (change : Body → Body) (f : Forest) → uses n f ≡ 0 → with_body n change f ≡ f
+with_body-outside n change none e = refl
+with_body-outside n change (node k body kids rest) e =
     let out = outside_node n k body kids rest e in
-    ap (λ b. node k b (with_text n change kids) (with_text n change rest)) (at_other n k (with_characters change body) body out.0)
-    ∙ ap (λ f. node k body f (with_text n change rest)) (with_text-outside n change kids out.1)
-    ∙ ap (node k body kids) (with_text-outside n change rest out.2)
+    ap (λ b. node k b (with_body n change kids) (with_body n change rest)) (at_other n k (change body) body out.0)
+    ∙ ap (λ f. node k body f (with_body n change rest)) (with_body-outside n change kids out.1)
+    ∙ ap (node k body kids) (with_body-outside n change rest out.2)
 
 pub with_kids-outside : (n : ℕ) (change : Forest → Forest) (f : Forest) → uses n f ≡ 0 → with_kids n change f ≡ f
 with_kids-outside n change none e = refl
@@ -186,7 +197,7 @@ pub record Found (n : ℕ) (spot : Spot) (f : Forest) : Type 0 where
   pub around : Around
   pub rest : Forest
   pub whole : f ≡ plug around (node n spot.body spot.kids rest)
-  pub text : (change : List ℕ → List ℕ) → with_text n change f ≡ plug around (node n (with_characters change spot.body) spot.kids rest)
+  pub body : (change : Body → Body) → with_body n change f ≡ plug around (node n (change spot.body) spot.kids rest)
   pub kids : (change : Forest → Forest) → with_kids n change f ≡ plug around (node n spot.body (change spot.kids) rest)
 
 found_here : (up : Option ℕ) (n k : ℕ) (body : Body) (kids rest : Forest) (spot : Spot) → n ≡ k → uses n kids ≡ 0 → uses n rest ≡ 0 →
@@ -198,11 +209,11 @@ found_here up n k body kids rest spot same inner later e =
       around = here;
       rest = rest;
       whole = ap (λ m. node m body kids rest) (sym same);
-      text = λ change.
-          ap (λ m. node m (if n == k then with_characters change body else body) (with_text n change kids) (with_text n change rest)) (sym same)
-          ∙ ap (λ b. node n b (with_text n change kids) (with_text n change rest)) (at_same n k (with_characters change body) body same)
-          ∙ ap (λ f. node n (with_characters change body) f (with_text n change rest)) (with_text-outside n change kids inner)
-          ∙ ap (node n (with_characters change body) kids) (with_text-outside n change rest later);
+      body = λ change.
+          ap (λ m. node m (if n == k then change body else body) (with_body n change kids) (with_body n change rest)) (sym same)
+          ∙ ap (λ b. node n b (with_body n change kids) (with_body n change rest)) (at_same n k (change body) body same)
+          ∙ ap (λ f. node n (change body) f (with_body n change rest)) (with_body-outside n change kids inner)
+          ∙ ap (node n (change body) kids) (with_body-outside n change rest later);
       kids = λ change.
           ap (λ m. node m body (if n == k then change kids else with_kids n change kids) (with_kids n change rest)) (sym same)
           ∙ ap (λ f. node n body f (with_kids n change rest)) (at_same n k (change kids) (with_kids n change kids) same)
@@ -215,10 +226,10 @@ found_below n k body kids rest spot other later i = record {
   around = below k body i.around rest;
   rest = i.rest;
   whole = ap (λ f. node k body f rest) i.whole;
-  text = λ change.
-      ap (λ b. node k b (with_text n change kids) (with_text n change rest)) (at_other n k (with_characters change body) body other)
-      ∙ ap (λ f. node k body f (with_text n change rest)) (i.text change)
-      ∙ ap (node k body (plug i.around (node n (with_characters change spot.body) spot.kids i.rest))) (with_text-outside n change rest later);
+  body = λ change.
+      ap (λ b. node k b (with_body n change kids) (with_body n change rest)) (at_other n k (change body) body other)
+      ∙ ap (λ f. node k body f (with_body n change rest)) (i.body change)
+      ∙ ap (node k body (plug i.around (node n (change spot.body) spot.kids i.rest))) (with_body-outside n change rest later);
   kids = λ change.
       ap (λ f. node k body f (with_kids n change rest)) (at_other n k (change kids) (with_kids n change kids) other ∙ i.kids change)
       ∙ ap (node k body (plug i.around (node n spot.body (change spot.kids) i.rest))) (with_kids-outside n change rest later);
@@ -229,10 +240,10 @@ found_beside n k body kids rest spot other inner i = record {
   around = beside k body kids i.around;
   rest = i.rest;
   whole = ap (node k body kids) i.whole;
-  text = λ change.
-      ap (λ b. node k b (with_text n change kids) (with_text n change rest)) (at_other n k (with_characters change body) body other)
-      ∙ ap (λ f. node k body f (with_text n change rest)) (with_text-outside n change kids inner)
-      ∙ ap (node k body kids) (i.text change);
+  body = λ change.
+      ap (λ b. node k b (with_body n change kids) (with_body n change rest)) (at_other n k (change body) body other)
+      ∙ ap (λ f. node k body f (with_body n change rest)) (with_body-outside n change kids inner)
+      ∙ ap (node k body kids) (i.body change);
   kids = λ change.
       ap (λ f. node k body f (with_kids n change rest)) (at_other n k (change kids) (with_kids n change kids) other ∙ with_kids-outside n change kids inner)
       ∙ ap (node k body kids) (i.kids change);
@@ -251,3 +262,66 @@ found up n (node k body kids rest) spot once e = elim (cases_eq n k) [
         found_beside n k body kids rest spot other (omega (arith, used, once)) (found up n rest spot (omega (arith, once)) later)
   ]
 ]
+
+-- a number that stands somewhere below or beside a node stands nowhere else
+pub other_number : (n k x y : ℕ) → 0 < x → (if n == k then 1 else 0) + x + y ≤ 1 → (k ≡ n → ⊥) × (x ≤ 1) × (y ≡ 0)
+other_number n k x y some once = (λ e. let own = count_same n k (sym e) in absurd (omega (arith, own, some, once)), omega (arith, once), omega (arith, some, once))
+
+pub other_behind : (n k x y : ℕ) → 0 < y → (if n == k then 1 else 0) + x + y ≤ 1 → (k ≡ n → ⊥) × (x ≡ 0) × (y ≤ 1)
+other_behind n k x y some once = (λ e. let own = count_same n k (sym e) in absurd (omega (arith, own, some, once)), omega (arith, some, once), omega (arith, once))
+
+pub or_else-none : (o : Option Spot) → or_else o None ≡ o
+or_else-none None = refl
+or_else-none (Some spot) = refl
+
+-- changes below the document node
+pub with_body-root : (n : ℕ) (change : Body → Body) (top : Forest) → (n ≡ 0 → ⊥) → with_body n change (node 0 Root top none) ≡ node 0 Root (with_body n change top) none
+with_body-root n change top other = ap (λ b. node 0 b (with_body n change top) none) (at_other n 0 (change Root) Root other)
+
+pub with_kids-root : (n : ℕ) (change : Forest → Forest) (top : Forest) → (n ≡ 0 → ⊥) → with_kids n change (node 0 Root top none) ≡ node 0 Root (with_kids n change top) none
+with_kids-root n change top other = ap (λ f. node 0 Root f none) (at_other n 0 (change top) (with_kids n change top) other)
+
+-- the changes of the one node of a number, where that node stands
+pub with_kids-plug : (a : Around) (n : ℕ) (body : Body) (kids rest : Forest) (change : Forest → Forest) → uses n (plug a (node n body none rest)) ≤ 1 →
+    with_kids n change (plug a (node n body kids rest)) ≡ plug a (node n body (change kids) rest)
+with_kids-plug here n body kids rest change once =
+    let own = count_same n n refl in
+    ap (λ f. node n body f (with_kids n change rest)) (at_same n n (change kids) (with_kids n change kids) refl)
+    ∙ ap (node n body (change kids)) (with_kids-outside n change rest (omega (arith, own, once)))
+with_kids-plug (below k b a others) n body kids rest change once =
+    let own = count_same n n refl in
+    let part = uses-le-plug n a (node n body none rest) in
+    let o = other_number n k (uses n (plug a (node n body none rest))) (uses n others) (omega (arith, own, part)) once in
+    let inner : Forest = plug a (node n body kids rest) in
+    ap (λ f. node k b f (with_kids n change others)) (at_other n k (change inner) (with_kids n change inner) (λ e. o.0 (sym e)) ∙ with_kids-plug a n body kids rest change o.1)
+    ∙ ap (node k b (plug a (node n body (change kids) rest))) (with_kids-outside n change others o.2)
+with_kids-plug (beside k b inner a) n body kids rest change once =
+    let own = count_same n n refl in
+    let part = uses-le-plug n a (node n body none rest) in
+    let o = other_behind n k (uses n inner) (uses n (plug a (node n body none rest))) (omega (arith, own, part)) once in
+    ap (λ f. node k b f (with_kids n change (plug a (node n body kids rest)))) (at_other n k (change inner) (with_kids n change inner) (λ e. o.0 (sym e)) ∙ with_kids-outside n change inner o.1)
+    ∙ ap (node k b inner) (with_kids-plug a n body kids rest change o.2)
+
+pub with_body-plug : (a : Around) (n : ℕ) (body : Body) (kids rest : Forest) (change : Body → Body) → uses n (plug a (node n body kids rest)) ≤ 1 →
+    with_body n change (plug a (node n body kids rest)) ≡ plug a (node n (change body) kids rest)
+with_body-plug here n body kids rest change once =
+    let own = count_same n n refl in
+    ap (λ b. node n b (with_body n change kids) (with_body n change rest)) (at_same n n (change body) body refl)
+    ∙ ap (λ f. node n (change body) f (with_body n change rest)) (with_body-outside n change kids (omega (arith, own, once)))
+    ∙ ap (node n (change body) kids) (with_body-outside n change rest (omega (arith, own, once)))
+with_body-plug (below k b a others) n body kids rest change once =
+    let own = count_same n n refl in
+    let part = uses-le-plug n a (node n body kids rest) in
+    let o = other_number n k (uses n (plug a (node n body kids rest))) (uses n others) (omega (arith, own, part)) once in
+    let inner : Forest = plug a (node n body kids rest) in
+    ap (λ c. node k c (with_body n change inner) (with_body n change others)) (at_other n k (change b) b (λ e. o.0 (sym e)))
+    ∙ ap (λ f. node k b f (with_body n change others)) (with_body-plug a n body kids rest change o.1)
+    ∙ ap (node k b (plug a (node n (change body) kids rest))) (with_body-outside n change others o.2)
+with_body-plug (beside k b inner a) n body kids rest change once =
+    let own = count_same n n refl in
+    let part = uses-le-plug n a (node n body kids rest) in
+    let o = other_behind n k (uses n inner) (uses n (plug a (node n body kids rest))) (omega (arith, own, part)) once in
+    let later : Forest = plug a (node n body kids rest) in
+    ap (λ c. node k c (with_body n change inner) (with_body n change later)) (at_other n k (change b) b (λ e. o.0 (sym e)))
+    ∙ ap (λ f. node k b f (with_body n change later)) (with_body-outside n change inner o.1)
+    ∙ ap (node k b inner) (with_body-plug a n body kids rest change o.2)

@@ -6,6 +6,12 @@ pub mod Planted
 pub mod Applied
 pub mod ProperKept
 pub mod Undone
+pub mod Inside
+pub mod Subtrees
+pub mod ConsistentKept
+pub mod MayUndo
+pub mod UndoneAll
+pub mod Typed
 pub mod PutBack
 pub mod Small
 pub mod WholeDocument

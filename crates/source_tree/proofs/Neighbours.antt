@@ -11,7 +11,7 @@ use Rattle.source_model.proofs.Spots.{if_same}
 use Rattle.source_tree.specs.declared.prim.CaretPlace.TheVariants.{Text}
 use Rattle.source_tree.specs.declared.prim.Moves.{Moves}
 use Rattle.source_tree.specs.declared.prim.Primitive.{Primitive}
-use Rattle.source_tree.specs.declared.prim.Primitive.TheVariants.{InsertText, RemoveText, InsertChild, RemoveChild}
+use Rattle.source_tree.specs.declared.prim.Primitive.TheVariants.{InsertText, RemoveText, InsertChild, RemoveChild, SetAttr, RemoveAttr, PutAttr}
 use Rattle.source_tree.specs.Prims.{applied}
 use Rattle.source_tree.specs.Places.{IsPlaceOf, behind_insertion, behind_removal, carried_through, settled_by, moved}
 use Rattle.source_tree.specs.Neighbours.{StandsBetween, CarriesBetween}
@@ -196,6 +196,9 @@ carried_text (InsertText text from piece ∷ prims) number at = carried_text pri
 carried_text (RemoveText text from to ∷ prims) number at = carried_text prims number (if number.0 == text.0 then behind_removal from to at else at)
 carried_text (InsertChild parent place items ∷ prims) number at = carried_text prims number at
 carried_text (RemoveChild parent place ∷ prims) number at = carried_text prims number at
+carried_text (SetAttr element name value ∷ prims) number at = carried_text prims number at
+carried_text (RemoveAttr element name ∷ prims) number at = carried_text prims number at
+carried_text (PutAttr element place name value ∷ prims) number at = carried_text prims number at
 
 pub moved_text : (moves : Moves) (number : NodeName) (at : ℕ) → moved moves (Text number at) ≡ carried_through moves.prims (Text number at)
 moved_text moves number at = let is = carried_text moves.prims number at in ap (settled_by moves.begun) is.1 ∙ sym is.1

@@ -14,15 +14,15 @@ use Rattle.source_model.specs.Source as source
 use Rattle.source_model.specs.Cells.{Spot, named, spot_of}
 use Rattle.source_model.specs.Changes.{characters, with_characters, text_at, with_text, with_kids, inserted_at, greatest}
 use Rattle.source_model.specs.Proper.{uses, BeginsNoText, IsProper}
-use Rattle.source_model.proofs.Spots.{if_same, if_other, text_spot, kids_spot, spot_in-with_text, spot_in-with_kids, spot_in-new, used-from_spot, leaf}
+use Rattle.source_model.proofs.Spots.{if_same, if_other, text_spot, kids_spot, spot_in-with_text, spot_in-with_leaf, spot_in-new_leaf, used-from_spot, leaf}
 use Rattle.source_tree.specs.declared.prim.Primitive.{Primitive}
-use Rattle.source_tree.specs.declared.prim.Primitive.TheVariants.{InsertText, RemoveText, InsertChild, RemoveChild}
+use Rattle.source_tree.specs.declared.prim.Primitive.TheVariants.{InsertText, RemoveText, InsertChild, RemoveChild, SetAttr, RemoveAttr, PutAttr}
 use Rattle.source_tree.specs.declared.prim.SubItem.{SubItem}
 use Rattle.source_tree.specs.declared.prim.SubItem.TheVariants as item
 use Rattle.source_tree.specs.declared.prim.CaretPlace.{CaretPlace}
 use Rattle.source_tree.specs.declared.prim.CaretPlace.TheVariants.{Text, Into}
 use Rattle.source_tree.specs.declared.prim.Begun.{Begun}
-use Rattle.source_tree.specs.Prims.{applied, with_tree, subtree, MayApply, KeepsProper, HasRoom, HasPlace, IsNewLeaf, IsElement}
+use Rattle.source_tree.specs.Prims.{applied, with_tree, MayType, KeepsProper, HasRoom, HasPlace, IsNewLeaf, IsElement}
 use Rattle.source_tree.specs.Places.{IsPlaceOf, carried, behind_insertion, first_text, text_at_start, settled, begun_in, moves_of, inside_since, moved, node_of, IsNear, Lasts}
 use Rattle.source_tree.proofs.TextPlaces.{size, place_carried, place_behind, place_start, place_end}
 use Rattle.source_tree.proofs.ProperKept.{proper_kept}
@@ -123,7 +123,7 @@ pub text_at-with_kids : (p m k i : ℕ) (body : Body) (made : ℕ) (s : Source) 
     text_at (record { tree = with_kids p (inserted_at i (leaf k body)) s.tree; made = made; spaces = s.spaces }) m ≡ Some t
 text_at-with_kids p m k i body made s t other once e =
     let found = text_spot_of (spot_of s m) t e in
-    ap (option_and_then chars_of) (spot_in-with_kids None p m k i body s.tree other once ∙ ap (option_map (kids_spot p (inserted_at i (leaf k body)) m)) found.1) ∙ found.2
+    ap (option_and_then chars_of) (spot_in-with_leaf None p m k i body s.tree other once ∙ ap (option_map (kids_spot p (inserted_at i (leaf k body)) m)) found.1) ∙ found.2
 
 -- a place, carried through an insertion of characters
 insert_text_kept : (s : Source) (n : NodeName) (from : ℕ) (piece : List ℕ) (place : CaretPlace) → HasRoom s n.0 from (size piece) → IsPlaceOf s place →
@@ -146,7 +146,7 @@ into_kept : (p m k i : ℕ) (body : Body) (made : ℕ) (s : Source) (spot : Spot
     BeginsNoText (if p == m then inserted_at i (leaf k body) spot.kids else with_kids p (inserted_at i (leaf k body)) spot.kids) →
     IsPlaceOf (record { tree = with_kids p (inserted_at i (leaf k body)) s.tree; made = made; spaces = s.spaces }) (Into (record { 0 = m }))
 into_kept p m k i body made s spot other once found is begins =
-    (kids_spot p (inserted_at i (leaf k body)) m spot, spot_in-with_kids None p m k i body s.tree other once ∙ ap (option_map (kids_spot p (inserted_at i (leaf k body)) m)) found, is, begins)
+    (kids_spot p (inserted_at i (leaf k body)) m spot, spot_in-with_leaf None p m k i body s.tree other once ∙ ap (option_map (kids_spot p (inserted_at i (leaf k body)) m)) found, is, begins)
 
 -- the source with a leaf put in
 abbrev with_leaf : Source → ℕ → ℕ → ℕ → Body → ℕ → Source
@@ -203,7 +203,7 @@ leaf_behind names s p k i body made m new is e =
 new_text : (names : List NameParts) (s : Source) (p i made : ℕ) (number : NodeName) (t : List ℕ) → IsNew names s p number.0 i →
     text_at (with_leaf s p i number.0 (source.Text t) made) number.0 ≡ Some t
 new_text names s p i made number t new =
-    ap (option_and_then chars_of) (spot_in-new None p number.0 i (source.Text t) s.tree (unused names s p number.0 i new) (used-from_spot None p new.parent s.tree new.found))
+    ap (option_and_then chars_of) (spot_in-new_leaf None p number.0 i (source.Text t) s.tree (unused names s p number.0 i new) (used-from_spot None p new.parent s.tree new.found) (new.proper.distinct p))
 
 -- its start
 new_start : (names : List NameParts) (s : Source) (p i made : ℕ) (number : NodeName) (t : List ℕ) → IsNew names s p number.0 i →
@@ -235,7 +235,7 @@ stays_place s place is = subst (IsPlaceOf s) (sym (settled_place s place is)) is
 -- the element begins with the new text
 own_first : (names : List NameParts) (s : Source) (p k made : ℕ) (t : List ℕ) → IsNew names s p k 0 → text_at_start (with_leaf s p 0 k (source.Text t) made) p ≡ Some (named k)
 own_first names s p k made t new =
-    ap first_in (spot_in-with_kids None p p k 0 (source.Text t) s.tree (apart names s p k 0 p new.parent new new.found) (new.proper.distinct p)
+    ap first_in (spot_in-with_leaf None p p k 0 (source.Text t) s.tree (apart names s p k 0 p new.parent new new.found) (new.proper.distinct p)
     ∙ ap (option_map (kids_spot p (inserted_at 0 (leaf k (source.Text t))) p)) new.found)
     ∙ ap first_text (if_same p p (inserted_at 0 (leaf k (source.Text t)) new.parent.kids) (with_kids p (inserted_at 0 (leaf k (source.Text t))) new.parent.kids) refl)
 
@@ -303,7 +303,7 @@ leafed names s p i (item.Comment number t ∷ x ∷ items) proper has fresh = le
 leafed names s p i (item.Finish ∷ items) proper has fresh = absurd fresh
 
 -- a place of a source, carried through a prim and settled, is one of the source that the prim leaves
-pub place_kept : (names : List NameParts) (s : Source) (prim : Primitive) (place : CaretPlace) → IsProper names s → MayApply prim s → IsPlaceOf s place →
+pub place_kept : (names : List NameParts) (s : Source) (prim : Primitive) (place : CaretPlace) → IsProper names s → MayType prim s → IsPlaceOf s place →
     IsPlaceOf (applied prim s) (settled (applied prim s) (carried prim place))
 place_kept names s (InsertText n from piece) (Text m at) proper may is = insert_text_kept s n from piece (Text m at) may is
 place_kept names s (InsertText n from piece) (Into m) proper may is = stays_place (applied (InsertText n from piece) s) (Into m) (insert_text_kept s n from piece (Into m) may is)
@@ -315,21 +315,27 @@ place_kept names s (InsertChild p i items) (Into m) proper may is =
     let l = leafed names s p i items proper may.0 may.1 in
     subst (λ (left : Source). IsPlaceOf left (settled left (Into m))) (sym l.is) (l.kept (Into m) is)
 place_kept names s (RemoveChild p i) place proper may is = absurd may
+place_kept names s (SetAttr e name value) place proper may is = absurd may
+place_kept names s (RemoveAttr e name) place proper may is = absurd may
+place_kept names s (PutAttr e i name value) place proper may is = absurd may
 
 -- a node that is not there is not there after a prim
 gone_after_text : (n : ℕ) (change : List ℕ → List ℕ) (s : Source) (m : ℕ) → spot_of s m ≡ None → spot_of (with_tree s (with_text n change s.tree)) m ≡ None
 gone_after_text n change s m gone = spot_in-with_text None n change m s.tree ∙ ap (option_map (text_spot n change m)) gone
 
-gone_after : (names : List NameParts) (s : Source) (prim : Primitive) (m : ℕ) → IsProper names s → MayApply prim s → m ≤ s.made → spot_of s m ≡ None → spot_of (applied prim s) m ≡ None
+gone_after : (names : List NameParts) (s : Source) (prim : Primitive) (m : ℕ) → IsProper names s → MayType prim s → m ≤ s.made → spot_of s m ≡ None → spot_of (applied prim s) m ≡ None
 gone_after names s (InsertText n from piece) m proper may made gone = gone_after_text n.0 (inserted from piece) s m gone
 gone_after names s (RemoveText n from to) m proper may made gone = absurd may
 gone_after names s (InsertChild p i items) m proper may made gone =
     let l = leafed names s p i items proper may.0 may.1 in
     let number = l.new.number in
     ap (λ (left : Source). spot_of left m) l.is
-    ∙ spot_in-with_kids None p.0 m l.number.0 i l.body s.tree (λ e. absurd (omega (arith, made, number, e))) (proper.distinct p.0)
+    ∙ spot_in-with_leaf None p.0 m l.number.0 i l.body s.tree (λ e. absurd (omega (arith, made, number, e))) (proper.distinct p.0)
     ∙ ap (option_map (kids_spot p.0 (inserted_at i (leaf l.number.0 l.body)) m)) gone
 gone_after names s (RemoveChild p i) m proper may made gone = absurd may
+gone_after names s (SetAttr e name value) m proper may made gone = absurd may
+gone_after names s (RemoveAttr e name) m proper may made gone = absurd may
+gone_after names s (PutAttr e i name value) m proper may made gone = absurd may
 
 -- there or not
 there_or : (o : Option Spot) → (is_some o ≡ true) ⊎ (o ≡ None)
@@ -337,7 +343,7 @@ there_or None = inr refl
 there_or (Some spot) = inl refl
 
 -- the inside of another element begins with no text after a prim
-other_start : (names : List NameParts) (s : Source) (prim : Primitive) (m : NodeName) → IsProper names s → MayApply prim s → Lasts s (Into m) →
+other_start : (names : List NameParts) (s : Source) (prim : Primitive) (m : NodeName) → IsProper names s → MayType prim s → Lasts s (Into m) →
     (IsPlaceOf s (Into m) → IsPlaceOf (applied prim s) (Into m)) → settled (applied prim s) (Into m) ≡ Into m
 other_start names s prim m proper may lasts kept = elim (there_or (spot_of s m.0)) [
   | inl there ↦ settled_place (applied prim s) (Into m) (kept (lasts.there there))
@@ -370,7 +376,7 @@ inside_moved names s p i items m proper has fresh room lasts (inr e) =
     (λ is. subst (λ (other : Source). IsPlaceOf other (Into m)) (sym l.is) (leaf_other names s p.0 l.number.0 i l.body l.made m l.new is (λ f. e (sym f)))))
 
 -- a place is moved to where it stands in what the prim leaves
-pub moved_settles : (names : List NameParts) (s : Source) (prim : Primitive) (place : CaretPlace) → IsProper names s → MayApply prim s → Lasts s place →
+pub moved_settles : (names : List NameParts) (s : Source) (prim : Primitive) (place : CaretPlace) → IsProper names s → MayType prim s → Lasts s place →
     moved (moves_of (prim ∷ []) (applied prim s)) place ≡ settled (applied prim s) (carried prim place)
 moved_settles names s (InsertText n from piece) (Text m at) proper may lasts = refl
 moved_settles names s (InsertText n from piece) (Into m) proper may lasts =
@@ -379,6 +385,9 @@ moved_settles names s (RemoveText n from to) place proper may lasts = absurd may
 moved_settles names s (InsertChild p i items) (Text m at) proper may lasts = refl
 moved_settles names s (InsertChild p i items) (Into m) proper may lasts = inside_moved names s p i items m proper may.0 may.1 may.2 lasts (cases_eq m.0 p.0)
 moved_settles names s (RemoveChild p i) place proper may lasts = absurd may
+moved_settles names s (SetAttr e name value) place proper may lasts = absurd may
+moved_settles names s (RemoveAttr e name) place proper may lasts = absurd may
+moved_settles names s (PutAttr e i name value) place proper may lasts = absurd may
 
 -- a new text is what its element begins with
 pub begun_new : (names : List NameParts) (s : Source) (p number : NodeName) (t : List ℕ) → IsProper names s → HasPlace s p.0 0 → number.0 ≡ s.made + 1 →
@@ -404,7 +413,7 @@ gone_settled s m gone = ap (λ o. start_or m (first_in o)) gone
 text_there : (s : Source) (n : ℕ) (t : List ℕ) → text_at s n ≡ Some t → spot_of s n ≡ None → ⊥
 text_there s n t e gone = none-some t (sym (ap (option_and_then chars_of) gone) ∙ e)
 
-gone_stays : (names : List NameParts) (s : Source) (prim : Primitive) (place : CaretPlace) → IsProper names s → MayApply prim s → (node_of place).0 ≤ s.made → IsGone s place →
+gone_stays : (names : List NameParts) (s : Source) (prim : Primitive) (place : CaretPlace) → IsProper names s → MayType prim s → (node_of place).0 ≤ s.made → IsGone s place →
     settled (applied prim s) (carried prim place) ≡ place
 gone_stays names s (InsertText n from piece) (Text m at) proper may made gone =
     ap (Text m) (if_other m.0 n.0 (behind_insertion from (size piece) at) at (λ e. text_there s n.0 may.0 may.1 (ap (spot_of s) (sym e) ∙ gone)))
@@ -415,6 +424,9 @@ gone_stays names s (InsertChild p i items) (Text m at) proper may made gone = re
 gone_stays names s (InsertChild p i items) (Into m) proper may made gone =
     gone_settled (applied (InsertChild p i items) s) m (gone_after names s (InsertChild p i items) m.0 proper may made gone)
 gone_stays names s (RemoveChild p i) place proper may made gone = absurd may
+gone_stays names s (SetAttr e name value) place proper may made gone = absurd may
+gone_stays names s (RemoveAttr e name) place proper may made gone = absurd may
+gone_stays names s (PutAttr e i name value) place proper may made gone = absurd may
 
 -- numbers that were made stay made
 made_grows : (s : Source) (prim : Primitive) → s.made ≤ (applied prim s).made
@@ -422,12 +434,15 @@ made_grows s (InsertText n from piece) = omega arith
 made_grows s (RemoveText n from to) = omega arith
 made_grows s (InsertChild p i items) = omega arith
 made_grows s (RemoveChild p i) = omega arith
+made_grows s (SetAttr e name value) = omega arith
+made_grows s (RemoveAttr e name) = omega arith
+made_grows s (PutAttr e i name value) = omega arith
 
 gone_false : (o : Option Spot) → o ≡ None → IsTrue (is_some o) → ⊥
 gone_false o gone there = false≢true (ap is_some (sym gone) ∙ there)
 
 -- a place that lasts does so after a prim that keeps the source proper
-pub moved_lasts : (names : List NameParts) (s : Source) (prim : Primitive) (place : CaretPlace) → IsProper names s → MayApply prim s → KeepsProper names prim s → Lasts s place →
+pub moved_lasts : (names : List NameParts) (s : Source) (prim : Primitive) (place : CaretPlace) → IsProper names s → MayType prim s → KeepsProper names prim s → Lasts s place →
     Lasts (applied prim s) (moved (moves_of (prim ∷ []) (applied prim s)) place)
 moved_lasts names s prim place proper may keeps lasts =
     let left : Source = applied prim s in
@@ -448,7 +463,7 @@ near_settled : (s : Source) (place : CaretPlace) → IsNear (settled s place) �
 near_settled s (Text m at) near = near
 near_settled s (Into m) near = tt
 
-pub carried_near : (names : List NameParts) (s : Source) (prim : Primitive) (place : CaretPlace) → IsProper names s → MayApply prim s → KeepsProper names prim s → Lasts s place → IsNear (carried prim place)
+pub carried_near : (names : List NameParts) (s : Source) (prim : Primitive) (place : CaretPlace) → IsProper names s → MayType prim s → KeepsProper names prim s → Lasts s place → IsNear (carried prim place)
 carried_near names s prim place proper may keeps lasts =
     near_settled (applied prim s) (carried prim place) (subst IsNear (moved_settles names s prim place proper may lasts) (moved_lasts names s prim place proper may keeps lasts).near)
 

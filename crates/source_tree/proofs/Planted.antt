@@ -17,7 +17,8 @@ use Rattle.source_model.specs.Cells.{named}
 use Rattle.source_model.specs.Proper.{uses, depth_of, AreNodes, AreComments, BeginsNoText, IsTop, IsProper}
 use Rattle.source_tree.specs.Begun.{numbered, begun}
 use Rattle.source_tree.specs.declared.node.NodeBody.TheVariants as stored
-use Rattle.source_tree.specs.Arena.{Slot, source_of, with_spaces, IsArena, AreStored, AreLeaves, heads, nodes_of, arena_of, leaf}
+use Rattle.source_tree.specs.Arena.{Slot, source_of, with_spaces, IsArena, AreStored, heads, nodes_of, arena_of, leaf}
+use Rattle.source_model.specs.Consistent.{AreLeaves}
 use Rattle.source_tree.specs.Growing.{EndsHere, IsPlanted, PlantsAll}
 use Rattle.source_tree.proofs.Planting.{length-nodes_of}
 use Rattle.source_tree.proofs.Around.{count_same, count_other}

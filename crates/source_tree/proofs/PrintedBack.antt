@@ -11,19 +11,19 @@ use Rattle.tree_lines.specs.Given.{Given, without_lines, IsWhole, spaces_of, giv
 use Rattle.tree_lines.specs.Writable.{IsText, AreNodes, AreSpaces, IsWritable, ReadsBack}
 use Rattle.source_model.specs.Source.{Body, Root, Element, Text, Comment, Forest, none, node, Source}
 use Rattle.source_model.specs.Cells.{Spot}
-use Rattle.source_model.specs.Changes.{with_text, with_kids, inserted_at}
+use Rattle.source_model.specs.Changes.{with_characters, with_text, with_kids, inserted_at}
 use Rattle.source_model.specs.Proper.{IsProper}
 use Rattle.source_tree.specs.declared.prim.Primitive.{Primitive}
-use Rattle.source_tree.specs.declared.prim.Primitive.TheVariants.{InsertText, RemoveText, InsertChild, RemoveChild}
+use Rattle.source_tree.specs.declared.prim.Primitive.TheVariants.{InsertText, RemoveText, InsertChild, RemoveChild, SetAttr, RemoveAttr, PutAttr}
 use Rattle.source_tree.specs.declared.prim.SubItem.{SubItem}
 use Rattle.source_tree.specs.declared.prim.SubItem.TheVariants as item
-use Rattle.source_tree.specs.Prims.{applied, MayApply, KeepsProper, HasRoom, HasPlace, IsNewLeaf}
+use Rattle.source_tree.specs.Prims.{applied, MayType, KeepsProper, HasRoom, HasPlace, IsNewLeaf}
 use Rattle.source_tree.specs.Begun.{begun}
 use Rattle.source_tree.specs.Unnumbered.{unnumbered, below_document, document_of}
 use Rattle.source_tree.specs.Printing.{IsPrintable, PutsWritable, PrintsBack}
-use Rattle.source_tree.proofs.Around.{Around, plug}
-use Rattle.source_tree.proofs.Applied.{spot_text, with_text-root, with_kids-root}
-use Rattle.source_tree.proofs.ProperKept.{Below, below_top, element_at, some_items, proper_kept}
+use Rattle.source_tree.proofs.Around.{Around, plug, with_body-root, with_kids-root}
+use Rattle.source_tree.proofs.Inside.{Below, spot_text, element_body}
+use Rattle.source_tree.proofs.ProperKept.{below_top, some_items, proper_kept}
 use Rattle.source_tree.proofs.WholeDocument.{whole_document}
 use Rattle.source_tree.proofs.Printable.{IsText-inserted, writable-plug, IsWritableLeaf, writable-inserted_at}
 use Rattle.source_tree.proofs.TextWritten.{document_begun}
@@ -43,14 +43,14 @@ text_printed names spaces s n place piece p room more h =
     let g : Forest = node n (Text (inserted place piece text)) at.1 b.found.rest in
     let was : s.tree ≡ node 0 Root (plug a f) none = p.rooted ∙ ap (λ t. node 0 Root t none) b.found.whole in
     let is : with_text n (inserted place piece) s.tree ≡ node 0 Root (plug a g) none =
-    ap (with_text n (inserted place piece)) p.rooted ∙ with_text-root n (inserted place piece) p.top ∙ ap (λ u. node 0 Root u none) (b.found.text (inserted place piece)) in
+    ap (with_text n (inserted place piece)) p.rooted ∙ with_body-root n (with_characters (inserted place piece)) p.top b.other ∙ ap (λ u. node 0 Root u none) (b.found.body (with_characters (inserted place piece))) in
     subst (λ t. AreNodes names spaces (below_document t)) (sym is)
     (writable-plug names spaces a f g (λ own. (IsText-inserted text piece place room.2 own.0 more, own.1)) (subst (λ t. AreNodes names spaces (below_document t)) was h))
 
 leaf_printed : (names : List NameParts) (spaces : List Space) (s : Source) (n place m : ℕ) (body : Body) → IsProper names s → HasPlace s n place → IsWritableLeaf body →
     AreNodes names spaces (document_of s) → AreNodes names spaces (below_document (with_kids n (inserted_at place (node m body none none)) s.tree))
 leaf_printed names spaces s n place m body p has leaf h =
-    let e = element_at has.0 has.2 in
+    let e = element_body has.0.body has.2 in
     let kids : Forest = has.0.kids in
     let spot : Spot = record { up = has.0.up; body = Element e.0 e.1; kids = kids } in
     let b : Below s p.top n spot = below_top names s p n spot (has.1 ∙ ap (λ x. Some (record { up = has.0.up; body = x; kids = kids })) e.2) (λ bad. cc) in
@@ -75,20 +75,26 @@ child_printed names spaces s n place (item.Comment number t ∷ []) p has new pu
 child_printed names spaces s n place (item.Comment number t ∷ x ∷ items) p has new puts h = absurd (some_items x items new.1)
 child_printed names spaces s n place (item.Finish ∷ items) p has new puts h = absurd new
 
-nodes_printed : (names : List NameParts) (spaces : List Space) (s : Source) (prim : Primitive) → IsProper names s → MayApply prim s → PutsWritable names spaces prim →
+nodes_printed : (names : List NameParts) (spaces : List Space) (s : Source) (prim : Primitive) → IsProper names s → MayType prim s → PutsWritable names spaces prim →
     AreNodes names spaces (document_of s) → AreNodes names spaces (document_of (applied prim s))
 nodes_printed names spaces s (InsertText n place piece) p may puts h = text_printed names spaces s n.0 place piece p may puts h
 nodes_printed names spaces s (RemoveText n from to) p may puts h = absurd may
 nodes_printed names spaces s (InsertChild n place items) p may puts h = child_printed names spaces s n place items p may.0 may.1 puts h
 nodes_printed names spaces s (RemoveChild n place) p may puts h = absurd may
+nodes_printed names spaces s (SetAttr n name value) p may puts h = absurd may
+nodes_printed names spaces s (RemoveAttr n name) p may puts h = absurd may
+nodes_printed names spaces s (PutAttr n place name value) p may puts h = absurd may
 
 same_spaces : (s : Source) (prim : Primitive) → (applied prim s).spaces ≡ s.spaces
 same_spaces s (InsertText n place piece) = refl
 same_spaces s (RemoveText n from to) = refl
 same_spaces s (InsertChild n place items) = refl
 same_spaces s (RemoveChild n place) = refl
+same_spaces s (SetAttr n name value) = refl
+same_spaces s (RemoveAttr n name) = refl
+same_spaces s (PutAttr n place name value) = refl
 
-pub stays_printable : (names : List NameParts) (s : Source) (prim : Primitive) → IsProper names s → MayApply prim s → KeepsProper names prim s → PutsWritable names s.spaces prim → IsPrintable names s →
+pub stays_printable : (names : List NameParts) (s : Source) (prim : Primitive) → IsProper names s → MayType prim s → KeepsProper names prim s → PutsWritable names s.spaces prim → IsPrintable names s →
     IsPrintable names (applied prim s)
 stays_printable names s prim p may keeps puts is =
     let same : s.spaces ≡ (applied prim s).spaces = sym (same_spaces s prim) in record {

@@ -1,42 +1,27 @@
 -- What a prim leaves of a proper source is proper.
-use Rattle.std.proofs.Common.{◌≡◌, ℕ, ◌+◌, ◌<◌, ◌≤◌, ◌==◌, inl, inr, Bool, true, false, List, [], ◌∷◌, length, Option, Some, None, encode_utf8_all, if◌then◌else◌, refl, sym, ap, ◌∙◌, subst, arith}
+use Rattle.std.proofs.Common.{◌≡◌, ℕ, ◌+◌, ◌<◌, ◌==◌, inl, inr, Bool, true, false, List, [], ◌∷◌, length, Option, Some, encode_utf8_all, if◌then◌else◌, ap, ◌∙◌, subst, arith}
 use Rattle.std.proofs.lemmas.Bool.{cases_eq, false≢true}
 use Rattle.serna_kinds.specs.Limits.{node_limit}
 use Rattle.serna_kinds.specs.Names.{NameParts}
 use Rattle.source_model.specs.Source.{Body, Root, Element, Text, Comment, Forest, none, node, Source}
-use Rattle.source_model.specs.Cells.{Spot, spot_in, spot_of, or_else}
-use Rattle.source_model.specs.Changes.{with_text, with_kids, inserted_at}
+use Rattle.source_model.specs.Cells.{Spot, spot_of}
+use Rattle.source_model.specs.Changes.{with_characters, with_text, with_kids, inserted_at}
 use Rattle.source_model.specs.Proper.{uses, depth_of, AreNodes, IsTop, IsProper}
 use Rattle.serna_kinds.specs.Texts.{inserted}
 use Rattle.source_tree.specs.declared.prim.Primitive.{Primitive}
-use Rattle.source_tree.specs.declared.prim.Primitive.TheVariants.{InsertText, RemoveText, InsertChild, RemoveChild}
+use Rattle.source_tree.specs.declared.prim.Primitive.TheVariants.{InsertText, RemoveText, InsertChild, RemoveChild, SetAttr, RemoveAttr, PutAttr}
 use Rattle.source_tree.specs.declared.prim.SubItem.{SubItem}
 use Rattle.source_tree.specs.declared.prim.SubItem.TheVariants as item
-use Rattle.source_tree.specs.Prims.{applied, with_tree, with_nodes, IsElement, MayApply, KeepsProper, HasRoom, HasPlace, IsNewLeaf}
-use Rattle.source_tree.proofs.Around.{Around, below, plug, at_same, at_other, count_other, uses-plug, depth_of-plug, AreNodes-plug, IsTop-plug, Found, found}
-use Rattle.source_tree.proofs.Applied.{spot_text, with_text-root, with_kids-root, still_some, still_short, IsLeafBody, depth_of-inserted_at, uses-inserted_at, once_more, or_else-none}
-use Rattle.std.proofs.lemmas.Option.{same_Some}
+use Rattle.source_tree.specs.Prims.{applied, with_tree, with_nodes, MayType, KeepsProper, HasRoom, HasPlace, IsNewLeaf}
+use Rattle.source_tree.proofs.Around.{Around, below, plug, count_other, uses-plug, depth_of-plug, AreNodes-plug, IsTop-plug, with_body-root, with_kids-root}
+use Rattle.source_tree.proofs.Applied.{still_some, still_short, IsLeafBody, depth_of-inserted_at, uses-inserted_at, once_more}
+use Rattle.source_tree.proofs.Inside.{Below, inside, spot_text, element_body}
 use Rattle.serna_kinds.specs.declared.cells.NameId.{NameId}
 use Rattle.serna_kinds.specs.declared.cells.NodeName.{NodeName}
 use Rattle.serna_kinds.specs.declared.cells.AttrPair.{AttrPair}
 
--- a node of a proper source below the document node
-pub record Below (s : Source) (top : Forest) (n : ℕ) (spot : Spot) : Type 0 where
-  pub other : n ≡ 0 → ⊥
-  pub found : Found n spot top
-
 pub below_top : (names : List NameParts) (s : Source) (p : IsProper names s) (n : ℕ) (spot : Spot) → spot_of s n ≡ Some spot → (spot.body ≡ Root → ⊥) → Below s p.top n spot
-below_top names s p n spot e inner =
-    let document : Spot = record { up = None; body = Root; kids = p.top } in
-    let at : spot_in None n (node 0 Root p.top none) ≡ Some spot = ap (spot_in None n) (sym p.rooted) ∙ e in
-    let other : n ≡ 0 → ⊥ = λ is.
-    inner (sym (ap (λ (o : Spot). o.body) (same_Some document spot (sym (at_same n 0 (Some document) (or_else (spot_in (Some 0) n p.top) None) is) ∙ at)))) in
-    let once : uses n (node 0 Root p.top none) ≤ 1 = subst (λ t. uses n t ≤ 1) p.rooted (p.distinct n) in
-    record {
-      other = other;
-      found = found (Some 0) n p.top spot (omega (arith, once))
-          (sym (or_else-none (spot_in (Some 0) n p.top)) ∙ sym (at_other n 0 (Some document) (or_else (spot_in (Some 0) n p.top) None) other) ∙ at);
-    }
+below_top names s p n spot e inner = inside s p.top p.rooted p.distinct n spot e inner
 
 -- a source in which one node was changed, with as many numbers as before
 text_kept : (names : List NameParts) (s : Source) (n place : ℕ) (piece : List ℕ) → IsProper names s → HasRoom s n place (length (encode_utf8_all piece)) →
@@ -51,7 +36,7 @@ text_kept names s n place piece p room =
     let g : Forest = node n (Text (inserted place piece text)) at.1 b.found.rest in
     let was : s.tree ≡ node 0 Root (plug a f) none = p.rooted ∙ ap (λ t. node 0 Root t none) b.found.whole in
     let is : with_text n (inserted place piece) s.tree ≡ node 0 Root (plug a g) none =
-    ap (with_text n (inserted place piece)) p.rooted ∙ with_text-root n (inserted place piece) p.top ∙ ap (λ u. node 0 Root u none) (b.found.text (inserted place piece)) in
+    ap (with_text n (inserted place piece)) p.rooted ∙ with_body-root n (with_characters (inserted place piece)) p.top b.other ∙ ap (λ u. node 0 Root u none) (b.found.body (with_characters (inserted place piece))) in
     let same : (k : ℕ) → uses k (with_text n (inserted place piece) s.tree) ≡ uses k s.tree = λ k.
     (let h = uses-plug k (below 0 Root a none) f g in
     let one = ap (uses k) is in
@@ -120,19 +105,10 @@ leaf_kept names s n place m b up name attributes kids p is-spot number room leaf
       shallow = omega (arith, deep, old_depth, new_depth, shallow);
     }
 
-element_body : (b : Body) → IsElement b → (name : NameId) × (attributes : List AttrPair) × (b ≡ Element name attributes)
-element_body Root is = absurd is
-element_body (Element name attributes) is = (name, attributes, refl)
-element_body (Text t) is = absurd is
-element_body (Comment t) is = absurd is
-
-pub element_at : (spot : Spot) → IsElement spot.body → (name : NameId) × (attributes : List AttrPair) × (spot.body ≡ Element name attributes)
-element_at spot is = element_body spot.body is
-
 child_kept : (names : List NameParts) (s : Source) (n place m : ℕ) (b : Body) → IsProper names s → (has : HasPlace s n place) → m ≡ s.made + 1 → s.made < node_limit → IsLeafBody b →
     ((spot : Spot) → spot_of s n ≡ Some spot → AreNodes names (inserted_at place (node m b none none) spot.kids)) → IsProper names (with_nodes s n place (node m b none none))
 child_kept names s n place m b p has number room leaf_is keeps =
-    let e = element_at has.0 has.2 in
+    let e = element_body has.0.body has.2 in
     leaf_kept names s n place m b has.0.up e.0 e.1 has.0.kids p (has.1 ∙ ap (λ body. Some (record { up = has.0.up; body = body; kids = has.0.kids })) e.2) number room leaf_is (keeps has.0 has.1)
 
 abbrev pub are_none : List SubItem → Bool
@@ -152,10 +128,13 @@ insert_kept names s n place (item.Comment number t ∷ []) p has new room keeps 
 insert_kept names s n place (item.Comment number t ∷ x ∷ items) p has new room keeps = absurd (some_items x items new.1)
 insert_kept names s n place (item.Finish ∷ items) p has new room keeps = absurd new
 
-pub proper_kept : (names : List NameParts) (s : Source) (prim : Primitive) → IsProper names s → MayApply prim s → KeepsProper names prim s → IsProper names (applied prim s)
+pub proper_kept : (names : List NameParts) (s : Source) (prim : Primitive) → IsProper names s → MayType prim s → KeepsProper names prim s → IsProper names (applied prim s)
 proper_kept names s (InsertText n place piece) p may keeps = text_kept names s n.0 place piece p may
 proper_kept names s (RemoveText n from to) p may keeps = absurd may
 proper_kept names s (InsertChild n place items) p may keeps = insert_kept names s n place items p may.0 may.1 may.2 keeps
 proper_kept names s (RemoveChild n place) p may keeps = absurd may
+proper_kept names s (SetAttr n name value) p may keeps = absurd may
+proper_kept names s (RemoveAttr n name) p may keeps = absurd may
+proper_kept names s (PutAttr n place name value) p may keeps = absurd may
 
 pub ruleset proper = proper_kept

@@ -1,5 +1,5 @@
 -- A text of a proper source is short, and a place in it near its start.
-use Rattle.std.proofs.Common.{◌≡◌, ℕ, ◌≤◌, ◌==◌, ◌⊎◌, inl, inr, List, Option, Some, None, if◌then◌else◌, refl, sym, ap, ◌∙◌, subst, arith}
+use Rattle.std.proofs.Common.{◌≡◌, ℕ, ◌≤◌, ◌⊎◌, inl, inr, List, Option, Some, None, refl, sym, ap, ◌∙◌, subst, arith}
 use Rattle.std.proofs.lemmas.Bool.{cases_eq}
 use Rattle.std.proofs.lemmas.Option.{none-some}
 use Rattle.serna_kinds.specs.Limits.{text_limit}
@@ -13,7 +13,8 @@ use Rattle.source_model.proofs.Spots.{if_same, if_other}
 use Rattle.source_tree.specs.declared.prim.CaretPlace.{CaretPlace}
 use Rattle.source_tree.specs.declared.prim.CaretPlace.TheVariants.{Text, Into}
 use Rattle.source_tree.specs.Places.{IsPlaceOf, IsNear}
-use Rattle.source_tree.proofs.Applied.{spot_text, place_within}
+use Rattle.source_tree.proofs.Applied.{place_within}
+use Rattle.source_tree.proofs.Inside.{spot_text}
 use Rattle.source_tree.proofs.TextPlaces.{size}
 
 -- which of two spots was found

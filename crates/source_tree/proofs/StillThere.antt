@@ -2,21 +2,25 @@
 use Rattle.std.proofs.Common.{◌≡◌, ℕ, zero, suc, ◌==◌, ◌<◌, ◌≤◌, ◌⊎◌, inl, inr, Bool, true, false, List, ◌++◌, Option, Some, None, IsSome, if◌then◌else◌, refl, sym, ap, ◌∙◌, arith}
 use Rattle.std.proofs.lemmas.Bool.{cases_eq}
 use Rattle.std.proofs.lemmas.Option.{same_Some}
+use Rattle.std.specs.Option.{option_map, option_and_then}
+use Rattle.std.specs.Prelude.{insert}
+use Rattle.serna_kinds.specs.declared.cells.AttrPair.{AttrPair}
 use Rattle.serna_kinds.specs.declared.cells.NodeName.{NodeName}
 use Rattle.serna_kinds.specs.Texts.{inserted, removed}
-use Rattle.source_model.specs.Source.{Body, Text, Forest, none, node, Source}
-use Rattle.source_model.specs.Cells.{Spot, spot_in}
-use Rattle.source_model.specs.Changes.{text_at, with_kids, beside, inserted_at, removed_at}
+use Rattle.source_model.specs.Source.{Body, Root, Element, Text, Comment, Forest, none, node, Source}
+use Rattle.source_model.specs.Cells.{Spot, spot_in, spot_of}
+use Rattle.source_model.specs.Changes.{characters, text_at, with_pairs, with_attributes, with_kids, beside, inserted_at, removed_at}
+use Rattle.source_model.specs.Attributes.{pair_of, with_value, without_name}
 use Rattle.source_model.specs.Proper.{uses}
-use Rattle.source_model.proofs.Spots.{if_other}
+use Rattle.source_model.proofs.Spots.{if_other, body_spot, spot_in-with_body}
 use Rattle.source_tree.specs.declared.prim.CaretPlace.TheVariants as place
 use Rattle.source_tree.specs.declared.prim.Primitive.{Primitive}
-use Rattle.source_tree.specs.declared.prim.Primitive.TheVariants.{InsertText, RemoveText, InsertChild, RemoveChild}
-use Rattle.source_tree.specs.Prims.{applied, subtree}
+use Rattle.source_tree.specs.declared.prim.Primitive.TheVariants.{InsertText, RemoveText, InsertChild, RemoveChild, SetAttr, RemoveAttr, PutAttr}
+use Rattle.source_tree.specs.Prims.{applied, subtree, with_tree}
 use Rattle.source_tree.specs.Places.{behind_insertion, behind_removal}
 use Rattle.source_tree.specs.Neighbours.{StandsBetween, CarriesBetween, IsElsewhere}
 use Rattle.source_tree.proofs.Around.{at_other, at_same, count_same, either_spot}
-use Rattle.source_tree.proofs.Applied.{spot_text}
+use Rattle.source_tree.proofs.Inside.{spot_text}
 use Rattle.source_tree.proofs.PlacesKept.{text_at-with_text}
 use Rattle.source_tree.proofs.TextPlaces.{size}
 
@@ -107,6 +111,28 @@ some_text : (o : Option (List ℕ)) → IsSome o → (text : List ℕ) × (o ≡
 some_text None is = cc
 some_text (Some text) is = (text, refl)
 
+-- a change of attributes leaves the characters of every text
+same_characters : (change : List AttrPair → List AttrPair) (b : Body) → characters (with_pairs change b) ≡ characters b
+same_characters change Root = refl
+same_characters change (Element name pairs) = refl
+same_characters change (Text text) = refl
+same_characters change (Comment text) = refl
+
+characters_still : (n m : ℕ) (change : List AttrPair → List AttrPair) (b : Body) → characters (if n == m then with_pairs change b else b) ≡ characters b
+characters_still n m change b = elim (cases_eq n m) [
+  | inl same ↦ ap characters (at_same n m (with_pairs change b) b same) ∙ same_characters change b
+  | inr other ↦ ap characters (at_other n m (with_pairs change b) b other)
+]
+
+text_of_spot : (n m : ℕ) (change : List AttrPair → List AttrPair) (o : Option Spot) →
+    option_and_then (λ (spot : Spot). characters spot.body) (option_map (body_spot n (with_pairs change) m) o) ≡ option_and_then (λ (spot : Spot). characters spot.body) o
+text_of_spot n m change None = refl
+text_of_spot n m change (Some spot) = characters_still n m change spot.body
+
+text_at-with_attributes : (n m : ℕ) (change : List AttrPair → List AttrPair) (s : Source) (text : List ℕ) → text_at s m ≡ Some text → text_at (with_tree s (with_attributes n change s.tree)) m ≡ Some text
+text_at-with_attributes n m change s text e =
+    ap (option_and_then (λ (spot : Spot). characters spot.body)) (spot_in-with_body None n (with_pairs change) m s.tree) ∙ text_of_spot n m change (spot_of s m) ∙ e
+
 -- a text that is there after a prim elsewhere
 text_still_there : (s : Source) (prim : Primitive) (number : NodeName) (text : List ℕ) → IsElsewhere prim number → uses number.0 s.tree ≤ 1 → uses number.0 (applied prim s).tree ≤ 1 →
     text_at s number.0 ≡ Some text → IsSome (text_at (applied prim s) number.0) → text_at (applied prim s) number.0 ≡ Some text
@@ -122,6 +148,10 @@ text_still_there s (RemoveChild parent i) number text apart once once_now e is =
     let now = some_text (text_at (applied (RemoveChild parent i) s) number.0) is in
     let was = has_taken_out number.0 (Text now.0) parent.0 i s.tree (has_text (applied (RemoveChild parent i) s) number.0 now.0 now.1) in
     now.1 ∙ ap Some (same_text number.0 now.0 text s.tree once was (has_text s number.0 text e))
+text_still_there s (SetAttr e name value) number text apart once once_now before is = text_at-with_attributes e.0 number.0 (with_value name value) s text before
+text_still_there s (RemoveAttr e name) number text apart once once_now before is = text_at-with_attributes e.0 number.0 (without_name name) s text before
+text_still_there s (PutAttr e i name value) number text apart once once_now before is =
+    text_at-with_attributes e.0 number.0 (λ pairs. insert pairs i (pair_of name value)) s text before
 
 -- where it stands
 place_still : (prim : Primitive) (s : Source) (number : NodeName) (at : ℕ) (before behind : List ℕ) → IsElsewhere prim number → text_at (applied prim s) number.0 ≡ Some (before ++ behind) →
@@ -130,6 +160,9 @@ place_still (InsertText other from piece) s number at before behind apart e is =
 place_still (RemoveText other from to) s number at before behind apart e is = (e, is ∙ sym (if_other number.0 other.0 (behind_removal from to at) at apart))
 place_still (InsertChild parent i items) s number at before behind apart e is = (e, is)
 place_still (RemoveChild parent i) s number at before behind apart e is = (e, is)
+place_still (SetAttr element name value) s number at before behind apart e is = (e, is)
+place_still (RemoveAttr element name) s number at before behind apart e is = (e, is)
+place_still (PutAttr element i name value) s number at before behind apart e is = (e, is)
 
 pub changed_elsewhere : (s : Source) (prim : Primitive) (number : NodeName) (at : ℕ) (before behind : List ℕ) → IsElsewhere prim number → uses number.0 s.tree ≤ 1 → uses number.0 (applied prim s).tree ≤ 1 →
     IsSome (text_at (applied prim s) number.0) → StandsBetween s (place.Text number at) before behind → CarriesBetween prim s (place.Text number at) before behind

@@ -11,7 +11,8 @@ use Rattle.serna_kinds.specs.Content as content
 use Rattle.source_model.specs.Source.{Body, Root, Element, Text, Comment, Forest, none, node, numbers}
 use Rattle.source_model.specs.Cells.{Spot, named, or_else, spot_in, spot_of, facet_of, kind_of, name_of, attributes_of, text_of, kids_of}
 use Rattle.source_model.specs.Proper.{uses, depth_of}
-use Rattle.source_tree.specs.Arena.{Slot, slot_facet, slot_for, body_of, kids_in, node_facet, sprout, siblings, forest_of, source_of, stored_body, node_for, AreStored, AreLeaves, IsArena}
+use Rattle.source_tree.specs.Arena.{Slot, slot_facet, slot_for, body_of, kids_in, node_facet, sprout, siblings, forest_of, source_of, stored_body, node_for, AreStored, IsArena}
+use Rattle.source_model.specs.Consistent.{AreLeaves}
 use Rattle.source_tree.proofs.Around.{at_same, at_other, used_spot}
 
 pub body_of-stored_body : (b : Body) → body_of (stored_body b) ≡ b

@@ -1,64 +1,52 @@
--- What takes an insertion back restores the tree.
-use Rattle.std.proofs.Common.{◌≡◌, ℕ, zero, suc, ◌+◌, ◌≤◌, List, [], ◌∷◌, ◌++◌, length, Option, None, encode_utf8_all, refl, sym, ap, ◌∙◌, subst, arith, append_assoc, length-append}
+-- What takes a primitive back restores the tree.
+use Rattle.std.proofs.Common.{◌≡◌, ℕ, zero, suc, ◌+◌, ◌-◌, ◌<◌, ◌≤◌, List, [], ◌∷◌, ◌++◌, length, Option, Some, None, encode_utf8_all, refl, sym, ap, ◌∙◌, subst, arith, append_assoc, length-append}
 use Rattle.std.proofs.lemmas.Str.{encodes-append}
-use Rattle.serna_kinds.specs.Texts.{IsPlaceIn, past, inserted, removed}
+use Rattle.std.specs.Char.{encode_utf8}
+use Rattle.std.specs.Option.{option_map_or}
+use Rattle.std.specs.Prelude.{IsSome, insert, unwrap_or}
+use Rattle.serna_kinds.specs.declared.cells.NameId.{NameId}
+use Rattle.serna_kinds.specs.declared.cells.NodeName.{NodeName}
+use Rattle.serna_kinds.specs.declared.cells.AttrPair.{AttrPair}
+use Rattle.serna_kinds.specs.Texts.{IsPlaceIn, upto, past, inserted, removed}
 use Rattle.serna_kinds.proofs.TextLemmas.{inserted-at, upto-before, past-before}
-use Rattle.source_model.specs.Source.{Body, Text, Comment, Forest, none, node, Source, numbers}
-use Rattle.source_model.specs.Cells.{Spot}
-use Rattle.source_model.specs.Changes.{with_characters, with_text, with_kids, inserted_at, removed_at}
+use Rattle.source_model.specs.Source.{Body, Root, Element, Text, Forest, none, node, Source, numbers}
+use Rattle.source_model.specs.Cells.{Spot, spot_of}
+use Rattle.source_model.specs.Changes.{text_at, pairs_at, between, with_characters, with_pairs, with_body, with_text, with_attributes, with_kids, inserted_at, removed_at, alone_at}
+use Rattle.source_model.specs.Attributes.{pair_of, value_among, place_among, with_value, without_name}
 use Rattle.source_model.specs.Proper.{uses}
+use Rattle.source_model.specs.Consistent.{AreLeaves, IsLinked}
+use Rattle.source_model.proofs.Pairs.{value_back, value_out, pair_back, pair_out}
 use Rattle.source_tree.specs.declared.prim.Primitive.{Primitive}
-use Rattle.source_tree.specs.declared.prim.Primitive.TheVariants.{InsertText, RemoveText, InsertChild, RemoveChild}
+use Rattle.source_tree.specs.declared.prim.Primitive.TheVariants.{InsertText, RemoveText, InsertChild, RemoveChild, SetAttr, RemoveAttr, PutAttr}
 use Rattle.source_tree.specs.declared.prim.SubItem.{SubItem}
-use Rattle.source_tree.specs.declared.prim.SubItem.TheVariants as item
-use Rattle.source_tree.specs.Prims.{HasPlace, IsNewLeaf, subtree, applied, inverse, MayApply}
-use Rattle.source_tree.proofs.Around.{at_same, at_other, count_same, Around, below, beside, plug, uses-plug, uses-le-plug, with_text-outside, with_kids-outside, Found, found}
-use Rattle.source_tree.proofs.Applied.{other_number, other_behind, spot_text}
+use Rattle.source_tree.specs.Prims.{HasPlace, IsSubtree, subtree, items_of, old_value, applied, inverse, MayApply}
+use Rattle.source_tree.proofs.Around.{Around, plug, uses-plug, with_body-plug, with_kids-plug, Found, found}
+use Rattle.source_tree.proofs.Inside.{inside, AreLeaves-at, leaves_inside, spot_text, ElementAt, element_spot}
+use Rattle.source_tree.proofs.Subtrees.{subtree-items_of, leaves_alone, child_out, child_back}
 
--- the changes of the one node of a number, where that node stands
-pub with_kids-plug : (a : Around) (n : ℕ) (body : Body) (kids rest : Forest) (change : Forest → Forest) → uses n (plug a (node n body none rest)) ≤ 1 →
-    with_kids n change (plug a (node n body kids rest)) ≡ plug a (node n body (change kids) rest)
-with_kids-plug Around.here n body kids rest change once =
-    let own = count_same n n refl in
-    ap (λ f. node n body f (with_kids n change rest)) (at_same n n (change kids) (with_kids n change kids) refl)
-    ∙ ap (node n body (change kids)) (with_kids-outside n change rest (omega (arith, own, once)))
-with_kids-plug (below k b a others) n body kids rest change once =
-    let own = count_same n n refl in
-    let part = uses-le-plug n a (node n body none rest) in
-    let o = other_number n k (uses n (plug a (node n body none rest))) (uses n others) (omega (arith, own, part)) once in
-    let inner : Forest = plug a (node n body kids rest) in
-    ap (λ f. node k b f (with_kids n change others)) (at_other n k (change inner) (with_kids n change inner) (λ e. o.0 (sym e)) ∙ with_kids-plug a n body kids rest change o.1)
-    ∙ ap (node k b (plug a (node n body (change kids) rest))) (with_kids-outside n change others o.2)
-with_kids-plug (beside k b inner a) n body kids rest change once =
-    let own = count_same n n refl in
-    let part = uses-le-plug n a (node n body none rest) in
-    let o = other_behind n k (uses n inner) (uses n (plug a (node n body none rest))) (omega (arith, own, part)) once in
-    ap (λ f. node k b f (with_kids n change (plug a (node n body kids rest)))) (at_other n k (change inner) (with_kids n change inner) (λ e. o.0 (sym e)) ∙ with_kids-outside n change inner o.1)
-    ∙ ap (node k b inner) (with_kids-plug a n body kids rest change o.2)
+-- what a node is, changed and changed back
+body_undone : (tree : Forest) (n : ℕ) (change back : Body → Body) (spot : Spot) → uses n tree ≤ 1 → back (change spot.body) ≡ spot.body → Found n spot tree →
+    with_body n back (with_body n change tree) ≡ tree
+body_undone tree n change back spot once e at =
+    let a : Around = at.around in
+    let old : uses n (plug a (node n spot.body spot.kids at.rest)) ≤ 1 = subst (λ t. uses n t ≤ 1) at.whole once in
+    let same = uses-plug n a (node n spot.body spot.kids at.rest) (node n (change spot.body) spot.kids at.rest) in
+    ap (with_body n back) (at.body change)
+    ∙ with_body-plug a n (change spot.body) spot.kids at.rest back (omega (arith, same, old))
+    ∙ ap (λ b. plug a (node n b spot.kids at.rest)) e
+    ∙ sym at.whole
 
-pub with_text-plug : (a : Around) (n : ℕ) (body : Body) (kids rest : Forest) (change : List ℕ → List ℕ) → uses n (plug a (node n body kids rest)) ≤ 1 →
-    with_text n change (plug a (node n body kids rest)) ≡ plug a (node n (with_characters change body) kids rest)
-with_text-plug Around.here n body kids rest change once =
-    let own = count_same n n refl in
-    ap (λ b. node n b (with_text n change kids) (with_text n change rest)) (at_same n n (with_characters change body) body refl)
-    ∙ ap (λ f. node n (with_characters change body) f (with_text n change rest)) (with_text-outside n change kids (omega (arith, own, once)))
-    ∙ ap (node n (with_characters change body) kids) (with_text-outside n change rest (omega (arith, own, once)))
-with_text-plug (below k b a others) n body kids rest change once =
-    let own = count_same n n refl in
-    let part = uses-le-plug n a (node n body kids rest) in
-    let o = other_number n k (uses n (plug a (node n body kids rest))) (uses n others) (omega (arith, own, part)) once in
-    let inner : Forest = plug a (node n body kids rest) in
-    ap (λ c. node k c (with_text n change inner) (with_text n change others)) (at_other n k (with_characters change b) b (λ e. o.0 (sym e)))
-    ∙ ap (λ f. node k b f (with_text n change others)) (with_text-plug a n body kids rest change o.1)
-    ∙ ap (node k b (plug a (node n (with_characters change body) kids rest))) (with_text-outside n change others o.2)
-with_text-plug (beside k b inner a) n body kids rest change once =
-    let own = count_same n n refl in
-    let part = uses-le-plug n a (node n body kids rest) in
-    let o = other_behind n k (uses n inner) (uses n (plug a (node n body kids rest))) (omega (arith, own, part)) once in
-    let later : Forest = plug a (node n body kids rest) in
-    ap (λ c. node k c (with_text n change inner) (with_text n change later)) (at_other n k (with_characters change b) b (λ e. o.0 (sym e)))
-    ∙ ap (λ f. node k b f (with_text n change later)) (with_text-outside n change inner o.1)
-    ∙ ap (node k b inner) (with_text-plug a n body kids rest change o.2)
+-- its children, changed and changed back
+pub kids_undone : (tree : Forest) (n : ℕ) (change back : Forest → Forest) (spot : Spot) → uses n tree ≤ 1 → back (change spot.kids) ≡ spot.kids → Found n spot tree →
+    with_kids n back (with_kids n change tree) ≡ tree
+kids_undone tree n change back spot once e at =
+    let a : Around = at.around in
+    let old : uses n (plug a (node n spot.body spot.kids at.rest)) ≤ 1 = subst (λ t. uses n t ≤ 1) at.whole once in
+    let bare = uses-plug n a (node n spot.body spot.kids at.rest) (node n spot.body none at.rest) in
+    ap (with_kids n back) (at.kids change)
+    ∙ with_kids-plug a n spot.body (change spot.kids) at.rest back (omega (arith, bare, old))
+    ∙ ap (λ f. plug a (node n spot.body f at.rest)) e
+    ∙ sym at.whole
 
 -- the characters that were put in are those that are taken out
 taken_out : (text piece : List ℕ) (place : ℕ) → IsPlaceIn text place → removed place (place + length (encode_utf8_all piece)) (inserted place piece text) ≡ text
@@ -75,65 +63,157 @@ taken_out text piece place p =
     ∙ ap (λ t. p.before ++ t) (ap (past to) (sym grouped) ∙ past-before (p.before ++ piece) p.behind to end)
     ∙ sym p.whole
 
-text_undone : (tree : Forest) (n place : ℕ) (piece text : List ℕ) (up : Option ℕ) (kids : Forest) → uses n tree ≤ 1 → IsPlaceIn text place → Found n (record { up = up; body = Text text; kids = kids }) tree →
-    with_text n (removed place (place + length (encode_utf8_all piece))) (with_text n (inserted place piece) tree) ≡ tree
-text_undone tree n place piece text up kids once between at =
-    let out : List ℕ → List ℕ = removed place (place + length (encode_utf8_all piece)) in
-    let a : Around = at.around in
-    let old : uses n (plug a (node n (Text text) kids at.rest)) ≤ 1 = subst (λ t. uses n t ≤ 1) at.whole once in
-    let same = uses-plug n a (node n (Text text) kids at.rest) (node n (Text (inserted place piece text)) kids at.rest) in
-    ap (with_text n out) (at.text (inserted place piece))
-    ∙ with_text-plug a n (Text (inserted place piece text)) kids at.rest out (omega (arith, same, old))
-    ∙ ap (λ t. plug a (node n (Text t) kids at.rest)) (taken_out text piece place between)
-    ∙ sym at.whole
+-- a text falls into what stands before a place and what stands behind it
+upto-past : (n : ℕ) (t : List ℕ) → upto n t ++ past n t ≡ t
+upto-past zero t = refl
+upto-past (suc n) [] = refl
+upto-past (suc n) (c ∷ cs) = ap (λ x. c ∷ x) (upto-past (suc n - length (encode_utf8 c)) cs)
 
--- the child that was put in is the one that is taken out
-child_out : (i m : ℕ) (b : Body) (f : Forest) → i ≤ length (numbers f) → removed_at i (inserted_at i (node m b none none) f) ≡ f
-child_out zero m b f within = refl
-child_out (suc i) m b none within = absurd (omega (arith, within))
-child_out (suc i) m b (node k body kids rest) within = ap (node k body kids) (child_out i m b rest (omega (arith, within)))
+upto-upto : (n m : ℕ) (t : List ℕ) → n ≤ m → upto n (upto m t) ≡ upto n t
+upto-upto zero m t within = refl
+upto-upto (suc n) zero t within = absurd (omega (arith, within))
+upto-upto (suc n) (suc m) [] within = refl
+upto-upto (suc n) (suc m) (c ∷ cs) within =
+    ap (λ x. c ∷ x) (upto-upto (suc n - length (encode_utf8 c)) (suc m - length (encode_utf8 c)) cs (omega (arith, within)))
 
-child_undone : (tree : Forest) (n place m : ℕ) (b : Body) (spot : Spot) → uses n tree ≤ 1 → place ≤ length (numbers spot.kids) → Found n spot tree →
-    with_kids n (removed_at place) (with_kids n (inserted_at place (node m b none none)) tree) ≡ tree
-child_undone tree n place m b spot once within at =
-    let a : Around = at.around in
-    let kids : Forest = inserted_at place (node m b none none) spot.kids in
-    let old : uses n (plug a (node n spot.body spot.kids at.rest)) ≤ 1 = subst (λ t. uses n t ≤ 1) at.whole once in
-    let bare = uses-plug n a (node n spot.body spot.kids at.rest) (node n spot.body none at.rest) in
-    ap (with_kids n (removed_at place)) (at.kids (inserted_at place (node m b none none)))
-    ∙ with_kids-plug a n spot.body kids at.rest (removed_at place) (omega (arith, bare, old))
-    ∙ ap (λ f. plug a (node n spot.body f at.rest)) (child_out place m b spot.kids within)
-    ∙ sym at.whole
+-- the characters that were taken out are put in again
+pub put_back : (text : List ℕ) (from to : ℕ) → IsPlaceIn text from → from ≤ to → inserted from (between from to text) (removed from to text) ≡ text
+put_back text from to p within =
+    let piece : List ℕ = between from to text in
+    let later : List ℕ = past to text in
+    let first : upto from text ≡ p.before = ap (upto from) p.whole ∙ upto-before p.before p.behind from p.place in
+    let middle : p.before ++ piece ≡ upto to text =
+    ap (λ x. x ++ piece) (sym first ∙ sym (upto-upto from to text within)) ∙ upto-past from (upto to text) in
+    ap (λ x. inserted from piece (x ++ later)) first
+    ∙ ap (λ x. x ++ (piece ++ past from (p.before ++ later))) (upto-before p.before later from p.place)
+    ∙ ap (λ x. p.before ++ (piece ++ x)) (past-before p.before later from p.place)
+    ∙ sym (append_assoc p.before piece later)
+    ∙ ap (λ x. x ++ later) middle
+    ∙ upto-past to text
 
--- the items of a new leaf make one node
-one_node : (made : ℕ) (items : List SubItem) → IsNewLeaf made items → (m : ℕ) × (b : Body) × (subtree items ≡ node m b none none)
-one_node made [] is = absurd is
-one_node made (item.Begin number name attributes ∷ items) is = absurd is
-one_node made (item.Text number text ∷ items) is = (number.0, Text text, ap (λ rest. subtree (item.Text number text ∷ rest)) is.2)
-one_node made (item.Comment number text ∷ items) is = (number.0, Comment text, ap (λ rest. subtree (item.Comment number text ∷ rest)) is.1)
-one_node made (item.Finish ∷ items) is = absurd is
+pub at_spot : (source : Source) (c : IsLinked source) (n : ℕ) (spot : Spot) → spot_of source n ≡ Some spot → Found n spot source.tree
+at_spot source c n spot e = found None n source.tree spot (c.distinct n) e
 
-pub undone_tree : (source : Source) (prim : Primitive) → ((n : ℕ) → uses n source.tree ≤ 1) → MayApply prim source → (applied (inverse prim source) (applied prim source)).tree ≡ source.tree
-undone_tree source (InsertText text place piece) once may =
-    let at = spot_text source text.0 may.0 may.1 in
-    text_undone source.tree text.0 place piece may.0 at.0 at.1 (once text.0) may.2 (found None text.0 source.tree (record { up = at.0; body = Text may.0; kids = at.1 }) (once text.0) at.2)
-undone_tree source (RemoveText text from to) once may = absurd may
-undone_tree source (InsertChild parent place items) once may =
-    let has : HasPlace source parent.0 place = may.0 in
-    let one = one_node source.made items may.1 in
-    ap (λ more. with_kids parent.0 (removed_at place) (with_kids parent.0 (inserted_at place more) source.tree)) one.2
-    ∙ child_undone source.tree parent.0 place one.0 one.1 has.0 (once parent.0) has.3 (found None parent.0 source.tree has.0 (once parent.0) has.1)
-undone_tree source (RemoveChild parent place) once may = absurd may
+-- characters
+insert_undone : (source : Source) (c : IsLinked source) (n : NodeName) (at : ℕ) (piece text : List ℕ) → text_at source n.0 ≡ Some text → IsPlaceIn text at →
+    with_text n.0 (removed at (at + length (encode_utf8_all piece))) (with_text n.0 (inserted at piece) source.tree) ≡ source.tree
+insert_undone source c n at piece text there place =
+    let s = spot_text source n.0 text there in
+    let spot : Spot = record { up = s.0; body = Text text; kids = s.1 } in
+    body_undone source.tree n.0 (with_characters (inserted at piece)) (with_characters (removed at (at + length (encode_utf8_all piece)))) spot (c.distinct n.0)
+    (ap Text (taken_out text piece at place)) (at_spot source c n.0 spot s.2)
+
+pub text_comes_back : (source : Source) (n : NodeName) (from to : ℕ) (text : List ℕ) → ((k : ℕ) → uses k source.tree ≤ 1) → text_at source n.0 ≡ Some text → IsPlaceIn text from → from ≤ to →
+    (applied (inverse (RemoveText n from to) source) (applied (RemoveText n from to) source)).tree ≡ source.tree
+text_comes_back source n from to text once there place within =
+    let s = spot_text source n.0 text there in
+    let spot : Spot = record { up = s.0; body = Text text; kids = s.1 } in
+    ap (λ piece. with_text n.0 (inserted from piece) (with_text n.0 (removed from to) source.tree)) (ap (λ o. option_map_or (between from to) o []) there)
+    ∙ body_undone source.tree n.0 (with_characters (removed from to)) (with_characters (inserted from (between from to text))) spot (once n.0) (ap Text (put_back text from to place within))
+    (found None n.0 source.tree spot (once n.0) s.2)
+
+-- attributes
+pairs_undone : (source : Source) (c : IsLinked source) (n : NodeName) (spot : Spot) (at : ElementAt source n.0 spot.kids) (change back : List AttrPair → List AttrPair) →
+    back (change at.pairs) ≡ at.pairs → with_attributes n.0 back (with_attributes n.0 change source.tree) ≡ source.tree
+pairs_undone source c n spot at change back e =
+    let own : Spot = record { up = at.up; body = Element at.name at.pairs; kids = spot.kids } in
+    body_undone source.tree n.0 (with_pairs change) (with_pairs back) own (c.distinct n.0) (ap (Element at.name) e) (at_spot source c n.0 own at.there)
+
+set_undone : (source : Source) (c : IsLinked source) (n : NodeName) (name : NameId) (value : List ℕ) (spot : Spot) (at : ElementAt source n.0 spot.kids) (o : Option (List ℕ)) →
+    value_among name at.pairs ≡ o → (applied (old_value n name o) (applied (SetAttr n name value) source)).tree ≡ source.tree
+set_undone source c n name value spot at None e = pairs_undone source c n spot at (with_value name value) (without_name name) (value_out name value at.pairs e)
+set_undone source c n name value spot at (Some old) e = pairs_undone source c n spot at (with_value name value) (with_value name old) (value_back name value old at.pairs e)
+
+value_there : (name : NameId) (pairs : List AttrPair) (o : Option (List ℕ)) → value_among name pairs ≡ o → IsSome o → (value : List ℕ) × (value_among name pairs ≡ Some value)
+value_there name pairs None e some = cc
+value_there name pairs (Some value) e some = (value, e)
+
+pub has_value : (name : NameId) (pairs : List AttrPair) → IsSome (value_among name pairs) → (value : List ℕ) × (value_among name pairs ≡ Some value)
+has_value name pairs some = value_there name pairs (value_among name pairs) refl some
+
+unset_undone : (source : Source) (c : IsLinked source) (n : NodeName) (name : NameId) (value : List ℕ) (spot : Spot) (at : ElementAt source n.0 spot.kids) → value_among name at.pairs ≡ Some value →
+    (applied (inverse (RemoveAttr n name) source) (applied (RemoveAttr n name) source)).tree ≡ source.tree
+unset_undone source c n name value spot at e =
+    let put : List AttrPair → Forest =
+    λ pairs. with_attributes n.0 (λ ps. insert ps (place_among name pairs) (pair_of name (unwrap_or (value_among name pairs) []))) (with_attributes n.0 (without_name name) source.tree) in
+    ap put at.are
+    ∙ ap (λ o. with_attributes n.0 (λ ps. insert ps (place_among name at.pairs) (pair_of name (unwrap_or o []))) (with_attributes n.0 (without_name name) source.tree)) e
+    ∙ pairs_undone source c n spot at (without_name name) (λ ps. insert ps (place_among name at.pairs) (pair_of name value)) (pair_back name value at.pairs e)
+
+-- children
+pub subtree_one : (source : Source) (parent place : ℕ) (items : List SubItem) (is : IsSubtree source parent place items) → subtree items ≡ is.one
+subtree_one source parent place items is = ap subtree is.is ∙ subtree-items_of is.one is.leaves
+
+insert_child_undone : (source : Source) (c : IsLinked source) (n : NodeName) (place : ℕ) (items : List SubItem) (has : HasPlace source n.0 place) → IsSubtree source n.0 place items →
+    with_kids n.0 (removed_at place) (with_kids n.0 (inserted_at place (subtree items)) source.tree) ≡ source.tree
+insert_child_undone source c n place items has is =
+    let spot : Spot = has.0 in
+    ap (λ one. with_kids n.0 (removed_at place) (with_kids n.0 (inserted_at place one) source.tree)) (subtree_one source n.0 place items is)
+    ∙ kids_undone source.tree n.0 (inserted_at place is.one) (removed_at place) spot (c.distinct n.0) (child_out place is.one spot.kids is.single has.3) (at_spot source c n.0 spot has.1)
+
+-- below an element of a consistent source, texts and comments are leaves
+pub leaves_under : (source : Source) (c : IsLinked source) (n : ℕ) (spot : Spot) → spot_of source n ≡ Some spot → (spot.body ≡ Root → ⊥) → AreLeaves spot.kids
+leaves_under source c n spot e inner =
+    let b = inside source c.top c.rooted c.distinct n spot e inner in
+    let f : Forest = node n spot.body spot.kids b.found.rest in
+    (leaves_inside n spot.body spot.kids b.found.rest (AreLeaves-at b.found.around f (λ bad. cc) (subst AreLeaves b.found.whole c.leaves))).0
+
+pub out_items : (source : Source) (n : ℕ) (place : ℕ) (spot : Spot) → spot_of source n ≡ Some spot →
+    option_map_or (λ (s : Spot). items_of (alone_at place s.kids)) (spot_of source n) [] ≡ items_of (alone_at place spot.kids)
+out_items source n place spot e = ap (λ o. option_map_or (λ (s : Spot). items_of (alone_at place s.kids)) o []) e
+
+remove_child_undone : (source : Source) (c : IsLinked source) (n : NodeName) (place : ℕ) (spot : Spot) → spot_of source n.0 ≡ Some spot → (spot.body ≡ Root → ⊥) → place < length (numbers spot.kids) →
+    (applied (inverse (RemoveChild n place) source) (applied (RemoveChild n place) source)).tree ≡ source.tree
+remove_child_undone source c n place spot e inner within =
+    ap (λ xs. with_kids n.0 (inserted_at place (subtree xs)) (with_kids n.0 (removed_at place) source.tree)) (out_items source n.0 place spot e)
+    ∙ ap (λ more. with_kids n.0 (inserted_at place more) (with_kids n.0 (removed_at place) source.tree))
+    (subtree-items_of (alone_at place spot.kids) (leaves_alone place spot.kids (leaves_under source c n.0 spot e inner)))
+    ∙ kids_undone source.tree n.0 (removed_at place) (inserted_at place (alone_at place spot.kids)) spot (c.distinct n.0) (child_back place spot.kids within) (at_spot source c n.0 spot e)
+
+pub undone_tree : (source : Source) (prim : Primitive) → IsLinked source → MayApply prim source → (applied (inverse prim source) (applied prim source)).tree ≡ source.tree
+undone_tree source (InsertText n at piece) c may = insert_undone source c n at piece may.0 may.1 may.2
+undone_tree source (RemoveText n from to) c may = text_comes_back source n from to may.0 c.distinct may.1 may.2 may.4
+undone_tree source (InsertChild n place items) c may = insert_child_undone source c n place items may.0 may.1
+undone_tree source (RemoveChild n place) c may =
+    let at = element_spot source n.0 may.0 may.1 may.2 in
+    let spot : Spot = record { up = at.up; body = Element at.name at.pairs; kids = may.0.kids } in
+    remove_child_undone source c n place spot at.there (λ bad. cc) may.3
+undone_tree source (SetAttr n name value) c may =
+    let at = element_spot source n.0 may.0.0 may.0.1 may.0.2 in
+    ap (λ pairs. (applied (old_value n name (value_among name pairs)) (applied (SetAttr n name value) source)).tree) at.are
+    ∙ set_undone source c n name value may.0.0 at (value_among name at.pairs) refl
+undone_tree source (RemoveAttr n name) c may =
+    let at = element_spot source n.0 may.0.0 may.0.1 may.0.2 in
+    let v = has_value name at.pairs (subst (λ pairs. IsSome (value_among name pairs)) at.are may.1) in
+    unset_undone source c n name v.0 may.0.0 at v.1
+undone_tree source (PutAttr n place name value) c may =
+    let at = element_spot source n.0 may.0.0 may.0.1 may.0.2 in
+    pairs_undone source c n may.0.0 at (λ pairs. insert pairs place (pair_of name value)) (without_name name)
+    (pair_out name value at.pairs place (sym (ap (value_among name) at.are) ∙ may.1) (subst (λ pairs. place ≤ length pairs) at.are may.2))
+
+old_spaces : (n : NodeName) (name : NameId) (o : Option (List ℕ)) (source : Source) → (applied (old_value n name o) source).spaces ≡ source.spaces
+old_spaces n name None source = refl
+old_spaces n name (Some old) source = refl
+
+old_made : (n : NodeName) (name : NameId) (o : Option (List ℕ)) (source : Source) → source.made ≤ (applied (old_value n name o) source).made
+old_made n name None source = omega arith
+old_made n name (Some old) source = omega arith
 
 pub undone_spaces : (source : Source) (prim : Primitive) → (applied (inverse prim source) (applied prim source)).spaces ≡ source.spaces
-undone_spaces source (InsertText text place piece) = refl
-undone_spaces source (RemoveText text from to) = refl
-undone_spaces source (InsertChild parent place items) = refl
-undone_spaces source (RemoveChild parent place) = refl
+undone_spaces source (InsertText n at piece) = refl
+undone_spaces source (RemoveText n from to) = refl
+undone_spaces source (InsertChild n place items) = refl
+undone_spaces source (RemoveChild n place) = refl
+undone_spaces source (SetAttr n name value) = old_spaces n name (value_among name (pairs_at source n.0)) (applied (SetAttr n name value) source)
+undone_spaces source (RemoveAttr n name) = refl
+undone_spaces source (PutAttr n place name value) = refl
 
 -- the count of numbers ever made does not fall
 pub undone_made : (source : Source) (prim : Primitive) → source.made ≤ (applied (inverse prim source) (applied prim source)).made
-undone_made source (InsertText text place piece) = omega arith
-undone_made source (RemoveText text from to) = omega arith
-undone_made source (InsertChild parent place items) = omega arith
-undone_made source (RemoveChild parent place) = omega arith
+undone_made source (InsertText n at piece) = omega arith
+undone_made source (RemoveText n from to) = omega arith
+undone_made source (InsertChild n place items) = omega arith
+undone_made source (RemoveChild n place) = omega arith
+undone_made source (SetAttr n name value) = old_made n name (value_among name (pairs_at source n.0)) (applied (SetAttr n name value) source)
+undone_made source (RemoveAttr n name) = omega arith
+undone_made source (PutAttr n place name value) = omega arith

@@ -16,6 +16,7 @@ use Rattle.source_model.specs.Source.{Body, Forest, Source, numbers}
 use Rattle.source_model.specs.Source as source
 use Rattle.source_model.specs.Cells.{named, kind_of, name_of, attributes_of, text_of, cell_of}
 use Rattle.source_model.specs.Proper.{uses, depth_of}
+use Rattle.source_model.specs.Consistent.{AreLeaves}
 use Rattle.source_tree.specs.declared.node.Node.{Node}
 use Rattle.source_tree.specs.declared.node.NodeBody.{NodeBody}
 use Rattle.source_tree.specs.declared.node.NodeBody.TheVariants as stored
@@ -96,14 +97,6 @@ abbrev pub AreStored : List Slot → Option ℕ → Forest → Type 0
 AreStored nodes up source.none = Unit {0}
 AreStored nodes up (source.node n body kids rest) =
     (slice_get nodes n ≡ Some (slot_for up body kids)) × AreStored nodes (Some n) kids × AreStored nodes up rest
-
--- what stands below the document node: no other document node, and nothing below a text or a comment
-abbrev pub AreLeaves : Forest → Type 0
-AreLeaves source.none = Unit {0}
-AreLeaves (source.node n source.Root kids rest) = ⊥
-AreLeaves (source.node n (source.Element name attributes) kids rest) = AreLeaves kids × AreLeaves rest
-AreLeaves (source.node n (source.Text text) kids rest) = (kids ≡ source.none) × AreLeaves rest
-AreLeaves (source.node n (source.Comment text) kids rest) = (kids ≡ source.none) × AreLeaves rest
 
 -- the arena stands for a source: it has its nodes and no others, no number stands twice, a place whose number is not used is empty, and
 -- the cells of the source are those of the nodes

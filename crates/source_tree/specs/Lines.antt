@@ -12,7 +12,8 @@ use Rattle.source_model.specs.Source.{Body, Forest, numbers}
 use Rattle.source_model.specs.Source as source
 use Rattle.source_model.specs.Cells.{named}
 use Rattle.source_model.specs.Proper.{depth_of}
-use Rattle.source_tree.specs.Arena.{Slot, AreStored, AreLeaves}
+use Rattle.source_tree.specs.Arena.{Slot, AreStored}
+use Rattle.source_model.specs.Consistent.{AreLeaves}
 use Rattle.source_tree.specs.Unnumbered.{unnumbered}
 
 -- what is written of neighbours and of all below them, apart from what the document declares

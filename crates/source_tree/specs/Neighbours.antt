@@ -6,7 +6,7 @@ use Rattle.source_model.specs.Changes.{text_at}
 use Rattle.source_tree.specs.declared.prim.CaretPlace.{CaretPlace}
 use Rattle.source_tree.specs.declared.prim.CaretPlace.TheVariants.{Text, Into}
 use Rattle.source_tree.specs.declared.prim.Primitive.{Primitive}
-use Rattle.source_tree.specs.declared.prim.Primitive.TheVariants.{InsertText, RemoveText, InsertChild, RemoveChild}
+use Rattle.source_tree.specs.declared.prim.Primitive.TheVariants.{InsertText, RemoveText, InsertChild, RemoveChild, SetAttr, RemoveAttr, PutAttr}
 use Rattle.source_tree.specs.Prims.{applied}
 use Rattle.source_tree.specs.Places.{carried}
 
@@ -19,9 +19,12 @@ StandsBetween source (Into number) before behind = ⊥
 abbrev pub CarriesBetween : Primitive → Source → CaretPlace → List ℕ → List ℕ → Type 0
 CarriesBetween prim source place before behind = StandsBetween (applied prim source) (carried prim place) before behind
 
--- a prim changes another text than that of this number, or children
+-- a prim changes another text than that of this number, or children, or attributes
 abbrev pub IsElsewhere : Primitive → NodeName → Type 0
 IsElsewhere (InsertText text from piece) number = number.0 ≡ text.0 → ⊥
 IsElsewhere (RemoveText text from to) number = number.0 ≡ text.0 → ⊥
 IsElsewhere (InsertChild parent place items) number = Unit {0}
 IsElsewhere (RemoveChild parent place) number = Unit {0}
+IsElsewhere (SetAttr element name value) number = Unit {0}
+IsElsewhere (RemoveAttr element name) number = Unit {0}
+IsElsewhere (PutAttr element place name value) number = Unit {0}

@@ -13,7 +13,7 @@ use Rattle.source_model.specs.Proper.{BeginsNoText}
 use Rattle.source_tree.specs.declared.prim.CaretPlace.{CaretPlace}
 use Rattle.source_tree.specs.declared.prim.CaretPlace.TheVariants.{Text, Into}
 use Rattle.source_tree.specs.declared.prim.Primitive.{Primitive}
-use Rattle.source_tree.specs.declared.prim.Primitive.TheVariants.{InsertText, RemoveText, InsertChild, RemoveChild}
+use Rattle.source_tree.specs.declared.prim.Primitive.TheVariants.{InsertText, RemoveText, InsertChild, RemoveChild, SetAttr, RemoveAttr, PutAttr}
 use Rattle.source_tree.specs.declared.prim.Begun.{Begun}
 use Rattle.source_tree.specs.declared.prim.Moves.{Moves}
 use Rattle.source_tree.specs.Prims.{IsElement}
@@ -42,6 +42,9 @@ carried (InsertChild parent place items) (Text number at) = Text number at
 carried (InsertChild parent place items) (Into number) = Into number
 carried (RemoveChild parent place) (Text number at) = Text number at
 carried (RemoveChild parent place) (Into number) = Into number
+carried (SetAttr element name value) place = place
+carried (RemoveAttr element name) place = place
+carried (PutAttr element at name value) place = place
 
 -- where it is after some prims, one after another
 abbrev pub carried_through : List Primitive → CaretPlace → CaretPlace
@@ -70,6 +73,9 @@ parents_in (InsertText text from piece) = []
 parents_in (RemoveText text from to) = []
 parents_in (InsertChild parent place items) = parent ∷ []
 parents_in (RemoveChild parent place) = parent ∷ []
+parents_in (SetAttr element name value) = []
+parents_in (RemoveAttr element name) = []
+parents_in (PutAttr element place name value) = []
 
 -- those of some elements that begin with a text in a source
 abbrev pub begun_in : Source → List NodeName → List Begun

@@ -1,15 +1,19 @@
 -- The smallest changes of a source, and what takes each back (this project's own).
-use Rattle.std.specs.Prelude.{◌≡◌, ℕ, ◌+◌, ◌<◌, ◌≤◌, List, [], ◌∷◌, ◌++◌, max, length, fold, Some, encode_utf8_all}
+use Rattle.std.specs.Prelude.{◌≡◌, ℕ, ◌+◌, ◌<◌, ◌≤◌, List, [], ◌∷◌, ◌++◌, max, length, insert, fold, Option, Some, None, IsSome, unwrap_or, encode_utf8_all}
 use Rattle.std.specs.Option.{option_map_or}
 use Rattle.serna_kinds.specs.Texts.{IsPlaceIn, inserted, removed}
 use Rattle.source_model.specs.Source.{Body, Root, Element, Text, Comment, Forest, none, node, Source, numbers}
 use Rattle.source_model.specs.Cells.{Spot, named, spot_of}
-use Rattle.source_model.specs.Changes.{text_at, between, with_text, with_kids, inserted_at, removed_at, alone_at, greatest}
-use Rattle.source_model.specs.Proper.{AreNodes}
-use Rattle.serna_kinds.specs.Limits.{text_limit, node_limit}
+use Rattle.source_model.specs.Changes.{text_at, pairs_at, between, with_text, with_attributes, with_kids, inserted_at, removed_at, alone_at, greatest}
+use Rattle.source_model.specs.Attributes.{pair_of, value_among, place_among, with_value, without_name}
+use Rattle.source_model.specs.Proper.{uses, depth_of, IsShort, AreNodes}
+use Rattle.source_model.specs.Consistent.{AreLeaves, AreShort}
+use Rattle.serna_kinds.specs.declared.cells.NameId.{NameId}
+use Rattle.serna_kinds.specs.declared.cells.NodeName.{NodeName}
+use Rattle.serna_kinds.specs.Limits.{text_limit, node_limit, depth_limit}
 use Rattle.serna_kinds.specs.Names.{NameParts}
 use Rattle.source_tree.specs.declared.prim.Primitive.{Primitive}
-use Rattle.source_tree.specs.declared.prim.Primitive.TheVariants.{InsertText, RemoveText, InsertChild, RemoveChild}
+use Rattle.source_tree.specs.declared.prim.Primitive.TheVariants.{InsertText, RemoveText, InsertChild, RemoveChild, SetAttr, RemoveAttr, PutAttr}
 use Rattle.source_tree.specs.declared.prim.SubItem.{SubItem}
 use Rattle.source_tree.specs.declared.prim.SubItem.TheVariants as item
 
@@ -54,6 +58,9 @@ applied (InsertText text place piece) source = with_tree source (with_text text.
 applied (RemoveText text from to) source = with_tree source (with_text text.0 (removed from to) source.tree)
 applied (InsertChild parent place items) source = with_nodes source parent.0 place (subtree items)
 applied (RemoveChild parent place) source = with_tree source (with_kids parent.0 (removed_at place) source.tree)
+applied (SetAttr element name value) source = with_tree source (with_attributes element.0 (with_value name value) source.tree)
+applied (RemoveAttr element name) source = with_tree source (with_attributes element.0 (without_name name) source.tree)
+applied (PutAttr element place name value) source = with_tree source (with_attributes element.0 (λ pairs. insert pairs place (pair_of name value)) source.tree)
 
 -- what prims make of it, one after another
 abbrev pub applied_all : List Primitive → Source → Source
@@ -71,6 +78,11 @@ abbrev pub items_of : Forest → List SubItem
 items_of none = []
 items_of (node n body kids rest) = own_items n body (items_of kids) (items_of rest)
 
+-- the prim that gives an attribute its old value again, or takes it out where there was none
+abbrev pub old_value : NodeName → NameId → Option (List ℕ) → Primitive
+old_value element name None = RemoveAttr element name
+old_value element name (Some value) = SetAttr element name value
+
 -- the prim that takes a prim back, told of the source before it: what was put in goes out again, and what was taken out, as it stood
 -- there, comes in again
 abbrev pub inverse : Primitive → Source → Primitive
@@ -79,6 +91,15 @@ inverse (RemoveText text from to) source = InsertText text from (option_map_or (
 inverse (InsertChild parent place items) source = RemoveChild parent place
 inverse (RemoveChild parent place) source =
     InsertChild parent place (option_map_or (λ (spot : Spot). items_of (alone_at place spot.kids)) (spot_of source parent.0) [])
+inverse (SetAttr element name value) source = old_value element name (value_among name (pairs_at source element.0))
+inverse (RemoveAttr element name) source =
+    PutAttr element (place_among name (pairs_at source element.0)) name (unwrap_or (value_among name (pairs_at source element.0)) [])
+inverse (PutAttr element place name value) source = RemoveAttr element name
+
+-- the prims that take prims back, each told of the source before it, in the order of the prims: the last one goes first
+abbrev pub inverses : List Primitive → Source → List Primitive
+inverses [] source = []
+inverses (prim ∷ prims) source = inverse prim source ∷ inverses prims (applied prim source)
 
 -- a text or a comment of the next number
 abbrev pub IsNewLeaf : ℕ → List SubItem → Type 0
@@ -102,13 +123,60 @@ HasPlace source n place = (spot : Spot) × (spot_of source n ≡ Some spot) × I
 abbrev pub HasRoom : Source → ℕ → ℕ → ℕ → Type 0
 HasRoom source n place more = (text : List ℕ) × (text_at source n ≡ Some text) × IsPlaceIn text place × (length (encode_utf8_all text) + more ≤ text_limit)
 
--- when a prim may be applied: its place is there, and the limits hold in what it leaves. The insertions can be applied so far, and a
--- subtree is a new text or comment.
+-- a node alone, with all below it
+abbrev pub IsSingle : Forest → Type 0
+IsSingle none = ⊥
+IsSingle (node n body kids rest) = rest ≡ none
+
+-- Items that may be put in below a node: those of one element, text or comment with all below it. Its numbers stand nowhere else, and
+-- those past the last one that was made are the next ones; texts, values, elements and numbers are within their limits.
+pub record IsSubtree (source : Source) (parent place : ℕ) (items : List SubItem) : Type 0 where
+  pub one : Forest
+  pub single : IsSingle one
+  pub leaves : AreLeaves one
+  pub is : items ≡ items_of one
+  pub short : AreShort one
+  pub distinct : (n : ℕ) → uses n one + uses n source.tree ≤ 1
+  pub next : (n : ℕ) → source.made < n → n ≤ greatest one → 0 < uses n one
+  pub few : greatest one ≤ node_limit
+  pub shallow : depth_of (with_kids parent (inserted_at place one) source.tree) ≤ depth_limit
+
+-- a text with two places, one not behind the other
+abbrev pub HasPart : Source → ℕ → ℕ → ℕ → Type 0
+HasPart source n from to = (text : List ℕ) × (text_at source n ≡ Some text) × IsPlaceIn text from × IsPlaceIn text to × (from ≤ to)
+
+-- an element with at least one child more
+abbrev pub HasChild : Source → ℕ → ℕ → Type 0
+HasChild source n place = (spot : Spot) × (spot_of source n ≡ Some spot) × IsElement spot.body × (place < length (numbers spot.kids))
+
+abbrev pub HasElement : Source → ℕ → Type 0
+HasElement source n = (spot : Spot) × (spot_of source n ≡ Some spot) × IsElement spot.body
+
+-- when a prim may be applied: its place is there, and the limits hold in what it leaves
 abbrev pub MayApply : Primitive → Source → Type 0
 MayApply (InsertText text place piece) source = HasRoom source text.0 place (length (encode_utf8_all piece))
-MayApply (RemoveText text from to) source = ⊥
-MayApply (InsertChild parent place items) source = HasPlace source parent.0 place × IsNewLeaf source.made items × (source.made < node_limit)
-MayApply (RemoveChild parent place) source = ⊥
+MayApply (RemoveText text from to) source = HasPart source text.0 from to
+MayApply (InsertChild parent place items) source = HasPlace source parent.0 place × IsSubtree source parent.0 place items
+MayApply (RemoveChild parent place) source = HasChild source parent.0 place
+MayApply (SetAttr element name value) source = HasElement source element.0 × IsShort value
+MayApply (RemoveAttr element name) source = HasElement source element.0 × IsSome (value_among name (pairs_at source element.0))
+MayApply (PutAttr element place name value) source =
+    HasElement source element.0 × (value_among name (pairs_at source element.0) ≡ None) × (place ≤ length (pairs_at source element.0)) × IsShort value
+
+-- when prims may be applied one after another, each to what those before it leave
+abbrev pub MayApplyAll : List Primitive → Source → Type 0
+MayApplyAll [] source = Unit {0}
+MayApplyAll (prim ∷ prims) source = MayApply prim source × MayApplyAll prims (applied prim source)
+
+-- what typing does, and all that can be applied so far: characters are put in, or a new text or comment
+abbrev pub MayType : Primitive → Source → Type 0
+MayType (InsertText text place piece) source = HasRoom source text.0 place (length (encode_utf8_all piece))
+MayType (RemoveText text from to) source = ⊥
+MayType (InsertChild parent place items) source = HasPlace source parent.0 place × IsNewLeaf source.made items × (source.made < node_limit)
+MayType (RemoveChild parent place) source = ⊥
+MayType (SetAttr element name value) source = ⊥
+MayType (RemoveAttr element name) source = ⊥
+MayType (PutAttr element place name value) source = ⊥
 
 -- a prim keeps a source proper: more characters always do, and nodes where the children with them are proper
 abbrev pub KeepsProper : List NameParts → Primitive → Source → Type 0
@@ -117,3 +185,6 @@ KeepsProper names (RemoveText text from to) source = ⊥
 KeepsProper names (InsertChild parent place items) source =
     (spot : Spot) → spot_of source parent.0 ≡ Some spot → AreNodes names (inserted_at place (subtree items) spot.kids)
 KeepsProper names (RemoveChild parent place) source = ⊥
+KeepsProper names (SetAttr element name value) source = ⊥
+KeepsProper names (RemoveAttr element name) source = ⊥
+KeepsProper names (PutAttr element place name value) source = ⊥

@@ -9,8 +9,9 @@ use Rattle.serna_kinds.specs.Apart.{AreApart}
 use Rattle.tree_lines.specs.Canonical.{document_lines}
 use Rattle.tree_lines.specs.Writable.{IsText, IsElementName, IsPair, IsWritable}
 use Rattle.source_model.specs.Source.{Source}
+use Rattle.source_model.specs.Attributes.{pair_of}
 use Rattle.source_tree.specs.declared.prim.Primitive.{Primitive}
-use Rattle.source_tree.specs.declared.prim.Primitive.TheVariants.{InsertText, RemoveText, InsertChild, RemoveChild}
+use Rattle.source_tree.specs.declared.prim.Primitive.TheVariants.{InsertText, RemoveText, InsertChild, RemoveChild, SetAttr, RemoveAttr, PutAttr}
 use Rattle.source_tree.specs.declared.prim.SubItem.{SubItem}
 use Rattle.source_tree.specs.declared.prim.SubItem.TheVariants as item
 use Rattle.source_tree.specs.Begun.{begun}
@@ -33,6 +34,9 @@ PutsWritable names spaces (InsertText text place piece) = IsText piece
 PutsWritable names spaces (RemoveText text from to) = Unit {0}
 PutsWritable names spaces (InsertChild parent place items) = AllByRecursion (IsWritableItem names spaces) items
 PutsWritable names spaces (RemoveChild parent place) = Unit {0}
+PutsWritable names spaces (SetAttr element name value) = IsPair names spaces (pair_of name value)
+PutsWritable names spaces (RemoveAttr element name) = Unit {0}
+PutsWritable names spaces (PutAttr element place name value) = IsPair names spaces (pair_of name value)
 
 -- the lines that are printed of a source are those of a document, which declares the same, and the source that this document begins,
 -- over this table or one that grows from it, has the same document

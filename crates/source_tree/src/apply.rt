@@ -1,5 +1,5 @@
 ghost use Rattle.std.specs.Prelude.{◌≡◌, ◌+◌, ◌^◌, ◌<◌, ◌≤◌, IfOk, OnOk, OnErr, length, insert};
-ghost use Rattle.source_tree.specs.Prims.{applied, inverse, MayApply, KeepsProper};
+ghost use Rattle.source_tree.specs.Prims.{applied, inverse, MayType, KeepsProper};
 ghost use Rattle.source_tree.specs.Changing.{HasPlaceIn, IsInserted, HasTextAt, TextInserted, HasKidsAt, LeafAdded, IsLeaf, IsBodyOf};
 
 use crate::node::{Node, NodeBody, node_at};
@@ -18,7 +18,7 @@ impl SourceTree {
     ///
     /// The two insertions can be applied so far, and the subtree of one is a new text or comment.
     pub fn apply(&mut self, alloc: Global, prim: &Primitive) -> Result<Undoing, NoMemory>
-        requires { MayApply prim.now self.old.source }
+        requires { MayType prim.now self.old.source }
         ensures applied { OnOk result (self.new.source ≡ applied prim.now self.old.source) }
         ensures undoing { IfOk result (λ undoing. undoing ≡ inverse prim.now self.old.source) }
         ensures kept { OnErr result (self.new ≡ self.old) }
@@ -35,6 +35,9 @@ impl SourceTree {
             }
             Primitive::RemoveText(_, _, _) => unreachable!(),
             Primitive::RemoveChild(_, _) => unreachable!(),
+            Primitive::SetAttr(_, _, _) => unreachable!(),
+            Primitive::RemoveAttr(_, _) => unreachable!(),
+            Primitive::PutAttr(_, _, _, _) => unreachable!(),
         }
     }
 
@@ -46,7 +49,7 @@ impl SourceTree {
         place: usize,
         piece: &Chars,
     ) -> Result<usize, NoMemory>
-        requires { MayApply (InsertText text place piece.now) self.old.source }
+        requires { MayType (InsertText text place piece.now) self.old.source }
         ensures applied { OnOk result (self.new.source ≡ applied (InsertText text place piece.now) self.old.source) }
         ensures end { IfOk result (λ end. end ≡ place + length (encode_utf8_all piece.now)) }
         ensures kept { OnErr result (self.new ≡ self.old) }
@@ -64,7 +67,7 @@ impl SourceTree {
         place: usize,
         items: &[SubItem],
     ) -> Result<(), NoMemory>
-        requires { MayApply (InsertChild parent place items.now) self.old.source }
+        requires { MayType (InsertChild parent place items.now) self.old.source }
         ensures applied { OnOk result (self.new.source ≡ applied (InsertChild parent place items.now) self.old.source) }
         ensures kept { OnErr result (self.new ≡ self.old) }
         ensures proper { OnOk result ((names : List NameParts) → IsProper names self.old.source → KeepsProper names (InsertChild parent place items.now) self.old.source → IsProper names self.new.source) }

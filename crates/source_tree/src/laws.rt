@@ -1,5 +1,5 @@
 //! Laws of sources in memory. Each function has an empty body, and its contract is the law.
-ghost use Rattle.std.specs.Prelude.{◌≡◌, ◌↔◌, ℕ, ◌-◌, ◌<◌, ◌≤◌, List, [], ◌∷◌, ◌++◌, Some, IsSome, length};
+ghost use Rattle.std.specs.Prelude.{◌≡◌, ◌↔◌, ℕ, ◌-◌, ◌<◌, ◌≤◌, List, [], ◌∷◌, ◌++◌, Some, IsSome, length, reverse};
 ghost use Rattle.serna_kinds.specs.declared.cells.NodeName.{NodeName};
 ghost use Rattle.serna_kinds.specs.Texts.{IsPlaceIn, upto, past, inserted, removed};
 ghost use Rattle.serna_kinds.specs.Names.{NameParts, Space, Grows, AreDistinct};
@@ -7,9 +7,10 @@ ghost use Rattle.source_model.specs.Source.{Source, numbers};
 ghost use Rattle.source_model.specs.Cells.{Spot, spot_of};
 ghost use Rattle.source_model.specs.Changes.{text_at};
 ghost use Rattle.source_model.specs.Proper.{uses, IsProper};
+ghost use Rattle.source_model.specs.Consistent.{IsLinked, IsConsistent};
 ghost use Rattle.source_tree.specs.declared.prim.Primitive.{Primitive};
 ghost use Rattle.source_tree.specs.declared.prim.Primitive.TheVariants.{InsertText, RemoveText, RemoveChild};
-ghost use Rattle.source_tree.specs.Prims.{applied, inverse, MayApply, KeepsProper};
+ghost use Rattle.source_tree.specs.Prims.{applied, applied_all, inverse, inverses, MayApply, MayApplyAll, MayType, KeepsProper};
 ghost use Rattle.source_tree.specs.Printing.{IsPrintable, PutsWritable, PrintsBack};
 ghost use Rattle.tree_lines.specs.Written.{Written, written_lines};
 ghost use Rattle.tree_lines.specs.Documents.{IsDocument};
@@ -23,13 +24,36 @@ ghost use Rattle.source_tree.specs.declared.prim.Moves.{Moves};
 ghost use Rattle.source_tree.specs.declared.prim.CaretPlace.TheVariants as place;
 ghost use Rattle.source_tree.specs.Neighbours.{StandsBetween, CarriesBetween, IsElsewhere};
 
-/// What takes a prim back restores the tree, where no number stands twice in it, and keeps the declared prefixes. The count of
-/// numbers ever made does not fall.
+/// What takes a prim back may be applied to what the prim leaves. It restores the tree, numbers included, and keeps the declared
+/// prefixes. The count of numbers ever made does not fall.
 pub fn undoing_restores()
-    ensures tree { (source : Source) (prim : Primitive) → ((n : ℕ) → uses n source.tree ≤ 1) → MayApply prim source →
+    ensures tree { (source : Source) (prim : Primitive) → IsLinked source → MayApply prim source →
         (applied (inverse prim source) (applied prim source)).tree ≡ source.tree }
+    ensures may { (source : Source) (prim : Primitive) → IsConsistent source → MayApply prim source → MayApply (inverse prim source) (applied prim source) }
     ensures spaces { (source : Source) (prim : Primitive) → (applied (inverse prim source) (applied prim source)).spaces ≡ source.spaces }
     ensures made { (source : Source) (prim : Primitive) → source.made ≤ (applied (inverse prim source) (applied prim source)).made }
+{}
+
+/// What takes prims back, the last one first, restores the tree, the declared prefixes, and may be applied. The count of numbers ever
+/// made does not fall.
+pub fn undoing_a_change_restores()
+    ensures tree { (source : Source) (prims : List Primitive) → IsLinked source → MayApplyAll prims source →
+        (applied_all (reverse (inverses prims source)) (applied_all prims source)).tree ≡ source.tree }
+    ensures may { (source : Source) (prims : List Primitive) → IsConsistent source → MayApplyAll prims source →
+        MayApplyAll (reverse (inverses prims source)) (applied_all prims source) }
+    ensures spaces { (source : Source) (prims : List Primitive) → (applied_all (reverse (inverses prims source)) (applied_all prims source)).spaces ≡ source.spaces }
+    ensures made { (source : Source) (prims : List Primitive) → source.made ≤ (applied_all (reverse (inverses prims source)) (applied_all prims source)).made }
+{}
+
+/// A prim that may be applied to a consistent source leaves one that is consistent, and so do prims one after another.
+pub fn a_source_stays_consistent()
+    ensures one { (source : Source) (prim : Primitive) → IsConsistent source → MayApply prim source → IsConsistent (applied prim source) }
+    ensures all { (source : Source) (prims : List Primitive) → IsConsistent source → MayApplyAll prims source → IsConsistent (applied_all prims source) }
+{}
+
+/// What typing does may be applied.
+pub fn typing_may_be_applied()
+    ensures { (source : Source) (prim : Primitive) → IsLinked source → MayType prim source → MayApply prim source }
 {}
 
 /// What is taken out of a source comes in again as it stood there, under its numbers: characters from a place between two of
@@ -67,7 +91,7 @@ pub fn printing_reads_back()
 
 /// A source that can be printed so that it reads back stays so when a prim puts text into it, or a new text or comment.
 pub fn typing_keeps_a_source_writable()
-    ensures { (names : List NameParts) (source : Source) (prim : Primitive) → IsProper names source → MayApply prim source → KeepsProper names prim source →
+    ensures { (names : List NameParts) (source : Source) (prim : Primitive) → IsProper names source → MayType prim source → KeepsProper names prim source →
         PutsWritable names source.spaces prim → IsPrintable names source → IsPrintable names (applied prim source) }
 {}
 
@@ -86,11 +110,11 @@ pub fn printable_while_names_grow()
 /// and the inside of an element that begins with a text there is the start of that text. A place of the source becomes one of
 /// the new source, and one that is gone stays as it is.
 pub fn places_last()
-    ensures settled { (names : List NameParts) (source : Source) (prim : Primitive) (place : CaretPlace) → IsProper names source → MayApply prim source → Lasts source place →
+    ensures settled { (names : List NameParts) (source : Source) (prim : Primitive) (place : CaretPlace) → IsProper names source → MayType prim source → Lasts source place →
         moved (moves_of (prim ∷ []) (applied prim source)) place ≡ settled (applied prim source) (carried prim place) }
-    ensures kept { (names : List NameParts) (source : Source) (prim : Primitive) (place : CaretPlace) → IsProper names source → MayApply prim source → IsPlaceOf source place →
+    ensures kept { (names : List NameParts) (source : Source) (prim : Primitive) (place : CaretPlace) → IsProper names source → MayType prim source → IsPlaceOf source place →
         IsPlaceOf (applied prim source) (settled (applied prim source) (carried prim place)) }
-    ensures lasts { (names : List NameParts) (source : Source) (prim : Primitive) (place : CaretPlace) → IsProper names source → MayApply prim source → KeepsProper names prim source →
+    ensures lasts { (names : List NameParts) (source : Source) (prim : Primitive) (place : CaretPlace) → IsProper names source → MayType prim source → KeepsProper names prim source →
         Lasts source place → Lasts (applied prim source) (moved (moves_of (prim ∷ []) (applied prim source)) place) }
     ensures begins { (names : List NameParts) (source : Source) (place : CaretPlace) → IsProper names source → IsPlaceOf source place → Lasts source place }
 {}

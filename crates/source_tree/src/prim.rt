@@ -36,6 +36,12 @@ pub enum Primitive {
     InsertChild(NodeName, usize, Items<SubItem>),
     /// A child of a node is taken out with all below it, so many children before it.
     RemoveChild(NodeName, usize),
+    /// An attribute of an element gets a value. A name that the element does not have yet goes behind its last attribute.
+    SetAttr(NodeName, NameId, Chars),
+    /// An attribute of an element is taken out.
+    RemoveAttr(NodeName, NameId),
+    /// A new attribute is put among those of an element, so many attributes before it. It is what takes `RemoveAttr` back.
+    PutAttr(NodeName, usize, NameId, Chars),
 }
 
 /// The prim that takes a prim back.
