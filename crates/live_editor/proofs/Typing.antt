@@ -9,14 +9,14 @@ use Rattle.serna_kinds.specs.declared.cells.Facet.TheVariants as facet
 use Rattle.serna_kinds.specs.Content.{Content}
 use Rattle.serna_kinds.specs.Content as content
 use Rattle.source_model.specs.Cells.{named, facet_of, cell_of}
-use Rattle.source_tree.proofs.Applied.{spot_text}
+use Rattle.source_tree.proofs.Inside.{spot_text}
 use Rattle.source_tree.proofs.ShortTexts.{text_short}
 use Rattle.source_model.specs.Changes.{text_at}
 use Rattle.source_tree.specs.declared.prim.Primitive.{Primitive}
 use Rattle.source_tree.specs.declared.prim.Primitive.TheVariants.{InsertText, InsertChild}
 use Rattle.source_tree.specs.declared.prim.SubItem.TheVariants as item
 use Rattle.source_tree.specs.declared.prim.CaretPlace.TheVariants.{Text, Into}
-use Rattle.source_tree.specs.Prims.{applied, MayApply}
+use Rattle.source_tree.specs.Prims.{applied, MayType}
 use Rattle.source_tree.specs.Places.{IsPlaceOf, begun_in}
 use Rattle.source_tree.proofs.PlacesKept.{begun_new}
 use Rattle.plain_editor.specs.Editor.{Editor, Reply, Done, Refused, Long, Nodes, Revisions, changed, bytes_of, bytes_at, typed_at}
@@ -110,13 +110,13 @@ into_sound editor text number occurrence sound is some short room few =
 
 -- and the prims may be applied
 pub text_may : (editor : Editor) (text : List ℕ) (number : NodeName) (at : ℕ) → IsPlaceOf editor.source (Text number at) → bytes_at editor.source number.0 + bytes_of text ≤ text_limit →
-    MayApply (InsertText number at text) editor.source
+    MayType (InsertText number at text) editor.source
 text_may editor text number at is short =
     let bytes : bytes_at editor.source number.0 ≡ bytes_of is.0 = bytes_there editor.source number.0 is.0 is.1 in
     (is.0, is.1, is.2, omega (arith, bytes, short))
 
 pub into_may : (editor : Editor) (text : List ℕ) (number : NodeName) → IsPlaceOf editor.source (Into number) → bytes_of text ≤ text_limit → editor.source.made < node_limit →
-    MayApply (new_text editor text number) editor.source
+    MayType (new_text editor text number) editor.source
 into_may editor text number is short room = ((is.0, is.1, is.2, omega arith), (refl, short, refl), room)
 
 -- the element begins with the new text then

@@ -4,7 +4,7 @@ ghost use Rattle.std.specs.Str.{chars};
 ghost use Rattle.std.specs.String.{string_bytes};
 ghost use Rattle.source_tree.specs.declared.prim.CaretPlace.TheVariants as place;
 ghost use Rattle.serna_kinds.specs.Limits.{change_limit};
-ghost use Rattle.source_tree.specs.Prims.{applied, MayApply};
+ghost use Rattle.source_tree.specs.Prims.{applied, MayType};
 ghost use Rattle.source_tree.specs.Places.{IsPlaceOf, begun_in, parents_in, is_there, node_of};
 ghost use Rattle.source_model.specs.Changes.{text_at};
 ghost use Rattle.source_tree.specs.Unnumbered.{document_of};
@@ -354,7 +354,7 @@ impl Editor {
         place: CaretPlace,
         occurrence: usize,
     ) -> Result<(), NoMemory>
-        requires may { MayApply prim self.old.source }
+        requires may { MayType prim self.old.source }
         requires begun { begun ≡ begun_in (applied prim self.old.source) (flat_map parents_in (prim ∷ [])) }
         requires sound { IsSoundEditor (changed self.old (prim ∷ []) place occurrence) }
         requires few { self.old.revision < change_limit }

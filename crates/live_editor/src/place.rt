@@ -113,6 +113,9 @@ fn carried_offset(prim: &Primitive, node: NodeName, at: usize) -> usize
         }
         Primitive::InsertChild(_, _, _) => at,
         Primitive::RemoveChild(_, _) => at,
+        Primitive::SetAttr(_, _, _) => at,
+        Primitive::RemoveAttr(_, _) => at,
+        Primitive::PutAttr(_, _, _, _) => at,
     }
 }
 

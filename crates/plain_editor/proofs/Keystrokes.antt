@@ -16,7 +16,7 @@ use Rattle.source_model.specs.Source as source
 use Rattle.source_model.specs.Cells.{Spot, spot_in, spot_of, named, kind_of, name_of, kids_of, attributes_of, facet_of, cell_of}
 use Rattle.source_model.specs.Changes.{with_characters, text_at, with_text, with_kids, inserted_at}
 use Rattle.source_model.specs.Proper.{uses, IsProper}
-use Rattle.source_model.proofs.Spots.{if_same, if_other, text_spot, kids_spot, spot_in-with_text, spot_in-with_kids, spot_in-new, spot_in-unused, used-from_spot, leaf}
+use Rattle.source_model.proofs.Spots.{if_same, if_other, text_spot, kids_spot, spot_in-with_text, spot_in-with_leaf, spot_in-new_leaf, spot_in-unused, used-from_spot, leaf}
 use Rattle.source_tree.specs.declared.prim.Primitive.TheVariants.{InsertText, InsertChild}
 use Rattle.source_tree.specs.declared.prim.SubItem.TheVariants as item
 use Rattle.source_tree.specs.declared.prim.Caret.{Caret}
@@ -25,7 +25,7 @@ use Rattle.source_tree.specs.declared.prim.CaretPlace.TheVariants as place
 use Rattle.source_tree.specs.Prims.{applied, with_tree, IsElement}
 use Rattle.serna_kinds.specs.Limits.{text_limit, node_limit, change_limit}
 use Rattle.source_tree.specs.Places.{IsPlaceOf, is_there, moved_through}
-use Rattle.source_tree.proofs.Applied.{spot_text}
+use Rattle.source_tree.proofs.Inside.{spot_text}
 use Rattle.style_sheet.specs.Sheet.{StyleValue}
 use Rattle.plain_editor.specs.Commands.{Command, command_of}
 use Rattle.plain_editor.specs.Commands as command
@@ -161,7 +161,7 @@ typed_into names s parent number text proper is new =
     let free : uses number.0 s.tree ≡ 0 = no_number names s number.0 (uses number.0 s.tree) proper new refl in
     let gone : spot_of s number.0 ≡ None = spot_in-unused None number.0 s.tree free in
     let there : spot_in None number.0 (with_kids parent.0 (inserted_at 0 (leaf number.0 (source.Text text))) s.tree) ≡ Some (record { up = Some parent.0; body = source.Text text; kids = source.none }) =
-    spot_in-new None parent.0 number.0 0 (source.Text text) s.tree free (used-from_spot None parent.0 is.0 s.tree is.1) in
+    spot_in-new_leaf None parent.0 number.0 0 (source.Text text) s.tree free (used-from_spot None parent.0 is.0 s.tree is.1) (proper.distinct parent.0) in
     let apart : (m : ℕ) (spot : Spot) → spot_of s m ≡ Some spot → m ≡ number.0 → ⊥ = λ m spot found e. absurd (none-some spot (sym gone ∙ ap (spot_of s) (sym e) ∙ found)) in
     record {
       was = λ f. ap (option_and_then (facet_of f)) gone;
@@ -174,13 +174,13 @@ typed_into names s parent number text proper is new =
           let before : Some (content.Kids (map named (numbers is.0.kids))) ≡ Some (content.Kids kids) =
           sym (element_kids is.0.body is.0.kids is.2) ∙ sym (ap (option_and_then (facet_of facet.Kids)) is.1) ∙ was in
           let same : map named (numbers is.0.kids) ≡ kids = ap kids_in before in
-          ap (option_and_then (facet_of facet.Kids)) (spot_in-with_kids None parent.0 parent.0 number.0 0 (source.Text text) s.tree (apart parent.0 is.0 is.1) (proper.distinct parent.0)
+          ap (option_and_then (facet_of facet.Kids)) (spot_in-with_leaf None parent.0 parent.0 number.0 0 (source.Text text) s.tree (apart parent.0 is.0 is.1) (proper.distinct parent.0)
           ∙ ap (option_map (kids_spot parent.0 (inserted_at 0 (leaf number.0 (source.Text text))) parent.0)) is.1)
           ∙ element_kids is.0.body (if parent.0 == parent.0 then inserted_at 0 (leaf number.0 (source.Text text)) is.0.kids else with_kids parent.0 (inserted_at 0 (leaf number.0 (source.Text text))) is.0.kids) is.2
           ∙ ap (λ f. Some (content.Kids (map named (numbers f)))) (if_same parent.0 parent.0 (inserted_at 0 (leaf number.0 (source.Text text)) is.0.kids) (with_kids parent.0 (inserted_at 0 (leaf number.0 (source.Text text))) is.0.kids) refl)
           ∙ ap (λ ns. Some (content.Kids (number ∷ ns))) same;
       elsewhere = λ other not_new not_kids.
-          ap (option_and_then (facet_of other.facet)) (spot_in-with_kids None parent.0 other.node.0 number.0 0 (source.Text text) s.tree not_new (proper.distinct parent.0))
+          ap (option_and_then (facet_of other.facet)) (spot_in-with_leaf None parent.0 other.node.0 number.0 0 (source.Text text) s.tree not_new (proper.distinct parent.0))
           ∙ found_kids_facet parent.0 other.node.0 (inserted_at 0 (leaf number.0 (source.Text text))) other.facet (spot_of s other.node.0) (λ e. not_kids (sym e));
       declared = refl;
       made = omega (arith, new);

@@ -19,7 +19,7 @@ use Rattle.source_tree.specs.declared.prim.SubItem.TheVariants as item
 use Rattle.source_tree.specs.declared.prim.Caret.{Caret}
 use Rattle.source_tree.specs.declared.prim.CaretPlace.{CaretPlace}
 use Rattle.source_tree.specs.declared.prim.CaretPlace.TheVariants.{Text, Into}
-use Rattle.source_tree.specs.Prims.{applied, MayApply, KeepsProper, HasPlace}
+use Rattle.source_tree.specs.Prims.{applied, MayType, KeepsProper, HasPlace}
 use Rattle.source_tree.specs.Places.{IsPlaceOf, IsNear, Lasts, is_there, moved, moved_through, moves_of}
 use Rattle.source_tree.proofs.ProperKept.{proper_kept}
 use Rattle.style_sheet.specs.Sheet.{StyleValue}
@@ -67,7 +67,7 @@ near_more : (since : List Moves) (moves : Moves) (place : CaretPlace) → GoesNe
 near_more [] moves place near way end = (way, end)
 near_more (m ∷ since) moves place near way end = (near.0, near_more since moves (moved m place) near.1 way end)
 
-live_place : (names : List NameParts) (s : Source) (since : List Moves) (prim : Primitive) (here : Option CaretPlace) → IsProper names s → MayApply prim s → KeepsProper names prim s → IsLive s since here →
+live_place : (names : List NameParts) (s : Source) (since : List Moves) (prim : Primitive) (here : Option CaretPlace) → IsProper names s → MayType prim s → KeepsProper names prim s → IsLive s since here →
     IsLive (applied prim s) (since ++ moves_of (prim ∷ []) (applied prim s) ∷ []) here
 live_place names s since prim (Some place) proper may keeps is =
     let moves : Moves = moves_of (prim ∷ []) (applied prim s) in
@@ -76,13 +76,13 @@ live_place names s since prim (Some place) proper may keeps is =
     (near_more since moves place is.0 (is.1.near, carried_near names s prim now proper may keeps is.1) later.near, subst (Lasts (applied prim s)) (sym (through_more since moves place)) later)
 live_place names s since prim None proper may keeps is = tt
 
-live_stops : (names : List NameParts) (s : Source) (since : List Moves) (prim : Primitive) (stops : List Stop) → IsProper names s → MayApply prim s → KeepsProper names prim s →
+live_stops : (names : List NameParts) (s : Source) (since : List Moves) (prim : Primitive) (stops : List Stop) → IsProper names s → MayType prim s → KeepsProper names prim s →
     AllByRecursion (IsStopLive s since) stops → AllByRecursion (IsStopLive (applied prim s) (since ++ moves_of (prim ∷ []) (applied prim s) ∷ [])) stops
 live_stops names s since prim [] proper may keeps all = tt
 live_stops names s since prim (stop ∷ stops) proper may keeps all =
     (live_place names s since prim (place_of stop.origin) proper may keeps all.0, live_stops names s since prim stops proper may keeps all.1)
 
-live_view : (names : List NameParts) (s : Source) (since : List Moves) (prim : Primitive) (stops : Option (List Stop)) → IsProper names s → MayApply prim s → KeepsProper names prim s → AreLive s since stops →
+live_view : (names : List NameParts) (s : Source) (since : List Moves) (prim : Primitive) (stops : Option (List Stop)) → IsProper names s → MayType prim s → KeepsProper names prim s → AreLive s since stops →
     AreLive (applied prim s) (since ++ moves_of (prim ∷ []) (applied prim s) ∷ []) stops
 live_view names s since prim None proper may keeps all = tt
 live_view names s since prim (Some stops) proper may keeps all = live_stops names s since prim stops proper may keeps all
@@ -96,7 +96,7 @@ pub fresh_stops : (names : List NameParts) (s : Source) (stops : List Stop) → 
 fresh_stops names s [] proper all = tt
 fresh_stops names s (stop ∷ stops) proper all = (fresh_place names s (place_of stop.origin) proper all.0, fresh_stops names s stops proper all.1)
 
-changed_sound : (names : List NameParts) (editor : Editor) (prim : Primitive) (place : CaretPlace) (occurrence : ℕ) → IsSound names editor → MayApply prim editor.source →
+changed_sound : (names : List NameParts) (editor : Editor) (prim : Primitive) (place : CaretPlace) (occurrence : ℕ) → IsSound names editor → MayType prim editor.source →
     KeepsProper names prim editor.source → IsPlaceOf (applied prim editor.source) place → IsSound names (changed editor (prim ∷ []) place occurrence)
 changed_sound names editor prim place occurrence sound may keeps is = record {
   proper = proper_kept names editor.source prim sound.proper may keeps;
@@ -161,7 +161,7 @@ spot_nodes names s n spot proper found =
 
 -- `type`: a text that is not too long may be put in
 pub text_may : (editor : Editor) (text : List ℕ) (number : NodeName) (at : ℕ) → IsPlaceOf editor.source (Text number at) →
-    nat_lt text_limit (bytes_at editor.source number.0 + bytes_of text) ≡ false → MayApply (InsertText number at text) editor.source
+    nat_lt text_limit (bytes_at editor.source number.0 + bytes_of text) ≡ false → MayType (InsertText number at text) editor.source
 text_may editor text number at is short =
     let bytes : bytes_at editor.source number.0 ≡ bytes_of is.0 = ap (λ (o : Option (List ℕ)). elim o [ None ↦ 0 | Some text ↦ bytes_of text ]) is.1 in
     let within : bytes_at editor.source number.0 + bytes_of text ≤ text_limit = ltb-false text_limit (bytes_at editor.source number.0 + bytes_of text) short in
@@ -171,7 +171,7 @@ abbrev pub new_text : Editor → List ℕ → NodeName → Primitive
 new_text editor text number = InsertChild number 0 (item.Text (named (editor.source.made + 1)) text ∷ [])
 
 pub into_may : (editor : Editor) (text : List ℕ) (number : NodeName) → IsPlaceOf editor.source (Into number) →
-    nat_lt text_limit (bytes_of text) ≡ false → nat_le node_limit editor.source.made ≡ false → MayApply (new_text editor text number) editor.source
+    nat_lt text_limit (bytes_of text) ≡ false → nat_le node_limit editor.source.made ≡ false → MayType (new_text editor text number) editor.source
 into_may editor text number is short room =
     ((is.0, is.1, is.2, omega arith), (refl, ltb-false text_limit (bytes_of text) short, refl), leb-false node_limit editor.source.made room)
 
