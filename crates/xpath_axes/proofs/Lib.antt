@@ -1,0 +1,17 @@
+pub mod Attributes
+pub mod Inward
+pub mod Levels
+pub mod MayLemmas
+pub mod NodeAxes
+pub mod NodeLemmas
+pub mod Outside
+pub mod Placed
+pub mod Rows
+pub mod Stands
+pub mod TakenLemmas
+pub mod TestLemmas
+pub mod Totals
+pub mod Ways
+pub mod Inner
+pub mod Inside
+pub mod StringLemmas

@@ -1,0 +1,5 @@
+pub mod Allowed
+pub mod Nodes
+pub mod Taken
+pub mod Walks
+pub mod Strings
