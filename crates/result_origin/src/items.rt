@@ -56,6 +56,14 @@ impl Fragment {
         self.items.as_slice()
     }
 
+    /// Its items, in order, each moved out of it. Takes no memory.
+    pub fn into_items(self) -> Vec<Item>
+        ensures { map part_of result.items ≡ self }
+    {
+        let Fragment { items } = self;
+        items
+    }
+
     /// Adds a text and where its start comes from. After an error the fragment is as before.
     pub fn push_run(&mut self, text: Chars, origin: Origin) -> Result<(), NoMemory>
         ensures ok { OnOk result (self.new ≡ self.old ++ Says (mark.Run text origin) ∷ []) }

@@ -1,6 +1,10 @@
 -- An instance with its holes filled, part by part.
-use Rattle.std.proofs.Common.{◌≡◌, ℕ, zero, suc, ◌+◌, ◌<◌, ◌++◌, List, [], ◌∷◌, Some, length, take, map, get_or, slice_get, refl, sym, ap, ◌∙◌, arith, append_assoc}
-use Rattle.std.proofs.lemmas.List.{take_more, append-nil}
+use Rattle.std.proofs.Common.{◌≡◌, ℕ, zero, suc, ◌+◌, ◌<◌, ◌++◌, List, [], ◌∷◌, Some, None, length, take, map, get_or, slice_get, refl, sym, ap, ◌∙◌, arith, append_assoc}
+use Rattle.std.proofs.lemmas.List.{take_more, append-nil, length-append}
+use Rattle.std.proofs.Math.Seq.{get_or-append_seam}
+use Rattle.std.specs.Iterator.{Yields}
+use Rattle.std.specs.Vec.Iter.{into_iter_items, into_iter_len, into_iter_steps}
+use Rattle.std.specs.declared.vec.IntoIter.{IntoIter}
 use Rattle.serna_kinds.specs.Names.{NameParts}
 use Rattle.source_model.specs.Source.{Source}
 use Rattle.result_origin.specs.Parts.{Mark, ResultPart, Says, Hole, holes, numbered, filled, said}
@@ -46,6 +50,30 @@ at_place k (Says m ∷ parts) zero part within is = mark m is (Says m) refl
 at_place k (Hole a ∷ parts) zero part within is = hole 0 a (is ∙ ap (λ n. Hole n) (omega arith)) refl (Hole a) refl
 at_place k (Says m ∷ parts) (suc i) part within is = behind_mark k parts i part m (at_place k parts i part (omega (arith, within)) is)
 at_place k (Hole a ∷ parts) (suc i) part within is = behind_hole k parts i part a (at_place (k + 1) parts i part (omega (arith, within)) is)
+
+-- the items that were taken, and those that are left, are all
+taken_front : {A : Type 0} (s t : IntoIter Item A) (taken : List Item) → Yields into_iter_steps s taken t → into_iter_items s ≡ taken ++ into_iter_items t
+taken_front s t [] gave = ap into_iter_items gave
+taken_front s t (x ∷ taken) gave = gave.1.0 ∙ ap (λ xs. x ∷ xs) (taken_front gave.0 t taken gave.2)
+
+-- and as many
+taken_many : {A : Type 0} (s t : IntoIter Item A) (taken : List Item) → Yields into_iter_steps s taken t → into_iter_len s ≡ length taken + into_iter_len t
+taken_many s t [] gave = omega (arith, ap into_iter_len gave)
+taken_many s t (x ∷ taken) gave = omega (arith, gave.1.1, taken_many gave.0 t taken gave.2)
+
+-- an item that is taken stands at its place
+pub taken_at : {A : Type 0} (s t u : IntoIter Item A) (items taken : List Item) (one : Item) → into_iter_items s ≡ items → Yields into_iter_steps s taken t → into_iter_steps t (Some one) u →
+    (length taken < length items) × (one ≡ get_or items (length taken) one)
+taken_at s t u items taken one is gave next =
+    let all : items ≡ taken ++ (one ∷ into_iter_items u) = sym is ∙ taken_front s t taken gave ∙ ap (λ xs. taken ++ xs) next.0 in (
+      omega (arith, ap length all, length-append taken (one ∷ into_iter_items u)),
+      sym (ap (λ (xs : List Item). get_or xs (length taken) one) all ∙ get_or-append_seam taken one (into_iter_items u) one),
+    )
+
+-- where no item is left, all were taken
+pub taken_all : {A : Type 0} (s t u : IntoIter Item A) (items taken : List Item) → into_iter_len s ≡ length items → Yields into_iter_steps s taken t → into_iter_steps t None u →
+    length taken ≡ length items
+taken_all s t u items taken many gave next = omega (arith, many, taken_many s t taken gave, next.0)
 
 -- an item of a fragment is the part at its place
 pub item_part : (items : List Item) (i : ℕ) (one : Item) (ps : List (ResultPart ℕ)) → i < length items → one ≡ get_or items i one → map part_of items ≡ ps →

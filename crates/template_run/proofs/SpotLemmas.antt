@@ -1,5 +1,5 @@
 -- What a node gives, by what it is.
-use Rattle.std.proofs.Common.{◌≡◌, ◌⊎◌, inl, inr, List, [], ◌∷◌, Option, Some, None, length, refl, sym, ap, arith}
+use Rattle.std.proofs.Common.{◌≡◌, ◌⊎◌, inl, inr, List, [], ◌∷◌, Option, Some, None, length, refl, sym, ap, ◌∙◌, arith}
 use Rattle.std.specs.Option.{option_map}
 use Rattle.serna_kinds.specs.declared.cells.NodeName.{NodeName}
 use Rattle.serna_kinds.specs.declared.cells.NameId.{NameId}
@@ -12,6 +12,7 @@ use Rattle.result_origin.specs.declared.origin.Origin.TheVariants as origin
 use Rattle.result_origin.specs.Parts.{ResultPart, Says, Run}
 use Rattle.instance_store.specs.declared.request.Asked.{Asked}
 use Rattle.template_run.specs.Requests.{applied_to}
+use Rattle.template_run.specs.Labels.{IsLabelIfKnown}
 use Rattle.template_run.specs.Nodes.{label_of, children_in, characters_in}
 use Rattle.template_run.specs.Instances.{children_parts, applied_in, built_in_parts, built_in_of}
 
@@ -63,6 +64,15 @@ spot_there (Some spot) label e = (spot, refl, sym (same_label label (label_of sp
 pub nothing_there : (found : Option Spot) → None ≡ option_map label_of found → found ≡ None
 nothing_there None e = refl
 nothing_there (Some spot) e = cc
+
+-- and the label of a node that stands somewhere is that of what stands there
+pub label_there : (source : Source) (n : NodeName) (known : Option (Option (Kind × Option NameId))) (label : Option (Kind × Option NameId)) → known ≡ Some label →
+    IsLabelIfKnown source (ref.Node n) known → label ≡ option_map label_of (spot_of source n.0)
+label_there source n None label is knows = cc
+label_there source n (Some other) label is knows = same is ∙ knows.2 ∙ sym (ap (option_map label_of) knows.1)
+  where
+    same : Some other ≡ Some label → label ≡ other
+    same e = cc
 
 pub applied_at : (source : Source) (mode : Option NameId) (n : NodeName) (spot : Spot) → spot_of source n.0 ≡ Some spot → children_parts mode n spot.body spot.kids ≡ applied_in source mode (ref.Node n)
 applied_at source mode n spot at =

@@ -53,6 +53,11 @@ abbrev pub IsLabelOf : Source → NodeRef → Option (Kind × Option NameId) →
 IsLabelOf source (ref.Node n) label = (spot : Spot) × (spot_of source n.0 ≡ Some spot) × (label ≡ Some (label_of spot))
 IsLabelOf source (ref.Attr n name) label = label ≡ None
 
+-- the same, where it is known what the node is
+abbrev pub IsLabelIfKnown : Source → NodeRef → Option (Option (Kind × Option NameId)) → Type 0
+IsLabelIfKnown source node None = Unit {0}
+IsLabelIfKnown source node (Some label) = IsLabelOf source node label
+
 -- what was found out about a node of a source: that it is not there, or what it is
 abbrev pub IsFound : Source → NodeRef → Option (Option (Kind × Option NameId)) → Type 0
 IsFound source node None = is_here source node ≡ false

@@ -16,7 +16,7 @@ ghost use Rattle.template_run.specs.Filled.{filling};
 ghost use Rattle.template_run.specs.Allowed.{presence_cells, MayRead, AreAllowed};
 
 use crate::RunResult;
-use crate::body::run_body;
+use crate::body::Site;
 use crate::matching::{Label, choice_for};
 use crate::nodes::{label_of, passed_here, value_of};
 use instance_store::{Asked, Place, Request};
@@ -150,9 +150,13 @@ impl<'a, V: SourceView> Transformation<'a, V> {
             return Ok(RunResult::new(self.alloc));
         }
         let choice = choice_for(self.style, self.names, request, label)?;
-        run_body(
-            self.alloc, self.style, choice, request, place, self.view, self.names, tape,
-        )
+        let site = Site {
+            alloc: self.alloc,
+            view: self.view,
+            node: request.node,
+            known: Some(label),
+        };
+        site.run(self.style, choice, request.mode, tape)
     }
 
     /// Adds the instance of a request at a place, where so many levels are left, with its holes filled.
@@ -173,7 +177,7 @@ impl<'a, V: SourceView> Transformation<'a, V> {
             KeepsNames self.now.names.now table self.now.style.now → AreAllowed allowed source → MayRead allowed request.now → Within allowed tape.old.cells → Within allowed tape.new.cells }
     {
         let instance = self.instance(left, request, place, tape)?;
-        self.fill(left, &instance, tape, out)
+        self.fill(left, instance, tape, out)
     }
 
     /// Adds an instance, where so many levels are left, with its holes filled.
@@ -181,23 +185,23 @@ impl<'a, V: SourceView> Transformation<'a, V> {
     fn fill(
         &self,
         left: u32,
-        instance: &RunResult,
+        instance: RunResult,
         tape: &mut Tape,
         out: &mut Fragment,
     ) -> Result<(), NoMemory>
         ensures before { SeenBefore tape.old.cells tape.new.cells (V.cells self.now.view.now) }
         ensures place { tape.new.place_read ≡ tape.old.place_read }
         ensures value { OnOk result ((table : List NameParts) (source : Source) → Sees self.now.names.now tape.new.cells (V.cells self.now.view.now) table source →
-            KeepsNames self.now.names.now table self.now.style.now → out.new ≡ out.old ++ said (filled (filling table self.now.style.now left source) instance.now)) }
+            KeepsNames self.now.names.now table self.now.style.now → out.new ≡ out.old ++ said (filled (filling table self.now.style.now left source) instance)) }
         ensures within { (allowed : Cell → Bool) (table : List NameParts) (source : Source) → Sees self.now.names.now tape.new.cells (V.cells self.now.view.now) table source →
-            KeepsNames self.now.names.now table self.now.style.now → AreAllowed allowed source → ((asked : AnyAsked) → Contains (holes instance.now) asked → MayRead allowed asked.request) →
+            KeepsNames self.now.names.now table self.now.style.now → AreAllowed allowed source → ((asked : AnyAsked) → Contains (holes instance) asked → MayRead allowed asked.request) →
             Within allowed tape.old.cells → Within allowed tape.new.cells }
     {
-        let asked = instance.asked();
-        for item in instance.fragment().items() {
+        let (fragment, asked) = instance.into_parts();
+        for item in fragment.into_items() {
             match item {
-                Item::Hole(hole) => self.fill_hole(left, *hole, asked, tape, out)?,
-                _ => out.push(item.copy()?)?,
+                Item::Hole(hole) => self.fill_hole(left, hole, asked.as_slice(), tape, out)?,
+                said => out.push(said)?,
             }
         }
         Ok(())

@@ -14,11 +14,13 @@ ghost use Rattle.style_sheet.specs.Bodies.{body_of};
 ghost use Rattle.instance_store.specs.declared.request.Place.{Place as AnyPlace};
 ghost use Rattle.instance_store.specs.declared.request.Request.{Request as AnyRequest};
 ghost use Rattle.template_run.specs.Instances.{Context, attribute_parts, element_parts, children_parts, applied_in, body_parts, built_in_parts, value_parts, built_in_of, body_at, rule_parts, choice_parts};
-ghost use Rattle.template_run.specs.Nodes.{value_of};
+ghost use Rattle.template_run.specs.Labels.{IsLabelIfKnown};
+ghost use Rattle.template_run.specs.Nodes.{label_of, value_of};
 ghost use Rattle.template_run.specs.Results.{GrowsBy};
 ghost use Rattle.template_run.specs.Allowed.{cell_at, own_cells};
 
 use crate::RunResult;
+use crate::matching::Label;
 use crate::nodes::{characters_of, children_of, label_of, value_of};
 use instance_store::{Place, Request};
 use result_origin::Origin;
@@ -28,12 +30,13 @@ use serna_kinds::{
 use std::alloc::Global;
 use style_sheet::{Body, Choice, Instruction, Style};
 
-/// Where a body is run: its node, in a source.
+/// Where a body is run: its node, in a source, and what the node is, where that was read before.
 #[derive(Drop)]
-struct Site<'a, V> {
-    alloc: Global,
-    view: &'a V,
-    node: NodeRef,
+pub(crate) struct Site<'a, V> {
+    pub(crate) alloc: Global,
+    pub(crate) view: &'a V,
+    pub(crate) node: NodeRef,
+    pub(crate) known: Option<Label>,
 }
 
 /// What a choice gives for a request at a place: the body of the rule of a number, or what the built-in rules give (XSLT 1.0,
@@ -65,11 +68,9 @@ pub fn run_body<V: SourceView>(
         alloc,
         view,
         node: request.node,
+        known: None,
     };
-    match choice {
-        Choice::Rule(number) => site.rule(style, number, tape),
-        Choice::BuiltIn => site.built_in(request.mode, tape),
-    }
+    site.run(style, choice, request.mode, tape)
 }
 
 /// The body of the rule of a number. None exactly where there is no such rule, or no such body.
@@ -90,12 +91,32 @@ fn is_childless_element(kind: Kind, kids: &[NodeName]) -> bool
 }
 
 impl<'a, V: SourceView> Site<'a, V> {
+    /// What a choice gives for a request for the node, at a place.
+    pub(crate) fn run(
+        &self,
+        style: &Style,
+        choice: Choice,
+        mode: Option<NameId>,
+        tape: &mut Tape,
+    ) -> Result<RunResult, NoMemory>
+        ensures before { SeenBefore tape.old.cells tape.new.cells (V.cells self.now.view.now) }
+        ensures place { tape.new.place_read ≡ tape.old.place_read }
+        ensures value { IfOk result (λ value. (table : List NameParts) (source : Source) (request : AnyRequest) (other : AnyPlace) → Agrees tape.new.cells (V.cells self.now.view.now) (cell_of source) →
+            IsLabelIfKnown source self.now.node self.now.known → request.node ≡ self.now.node → request.mode ≡ mode → value ≡ choice_parts table style.now choice request other source) }
+        ensures within { (allowed : Cell → Bool) → Within allowed (own_cells self.now.node) → Within allowed tape.old.cells → Within allowed tape.new.cells }
+    {
+        match choice {
+            Choice::Rule(number) => self.rule(style, number, tape),
+            Choice::BuiltIn => self.built_in(mode, tape),
+        }
+    }
+
     /// What the rule of a number gives.
     fn rule(&self, style: &Style, number: u32, tape: &mut Tape) -> Result<RunResult, NoMemory>
         ensures before { SeenBefore tape.old.cells tape.new.cells (V.cells self.now.view.now) }
         ensures place { tape.new.place_read ≡ tape.old.place_read }
         ensures value { IfOk result (λ value. (table : List NameParts) (source : Source) (request : AnyRequest) (other : AnyPlace) → Agrees tape.new.cells (V.cells self.now.view.now) (cell_of source) →
-            request.node ≡ self.now.node → value ≡ rule_parts table source number request other (body_at style.now number)) }
+            IsLabelIfKnown source self.now.node self.now.known → request.node ≡ self.now.node → value ≡ rule_parts table source number request other (body_at style.now number)) }
         ensures within { (allowed : Cell → Bool) → Within allowed (own_cells self.now.node) → Within allowed tape.old.cells → Within allowed tape.new.cells }
     {
         let mut result = RunResult::new(self.alloc);
@@ -119,8 +140,8 @@ impl<'a, V: SourceView> Site<'a, V> {
     ) -> Result<(), NoMemory>
         ensures before { SeenBefore tape.old.cells tape.new.cells (V.cells self.now.view.now) }
         ensures place { tape.new.place_read ≡ tape.old.place_read }
-        ensures value { OnOk result ((table : List NameParts) (source : Source) (context : Context) → Agrees tape.new.cells (V.cells self.now.view.now) (cell_of source) → context.current ≡ self.now.node →
-            GrowsBy out.old out.new (body_parts table source rule context body.now)) }
+        ensures value { OnOk result ((table : List NameParts) (source : Source) (context : Context) → Agrees tape.new.cells (V.cells self.now.view.now) (cell_of source) →
+            IsLabelIfKnown source self.now.node self.now.known → context.current ≡ self.now.node → GrowsBy out.old out.new (body_parts table source rule context body.now)) }
         ensures within { (allowed : Cell → Bool) → Within allowed (own_cells self.now.node) → Within allowed tape.old.cells → Within allowed tape.new.cells }
     {
         for instruction in body.instructions() {
@@ -140,8 +161,8 @@ impl<'a, V: SourceView> Site<'a, V> {
     ) -> Result<(), NoMemory>
         ensures before { SeenBefore tape.old.cells tape.new.cells (V.cells self.now.view.now) }
         ensures place { tape.new.place_read ≡ tape.old.place_read }
-        ensures value { OnOk result ((table : List NameParts) (source : Source) (context : Context) → Agrees tape.new.cells (V.cells self.now.view.now) (cell_of source) → context.current ≡ self.now.node →
-            GrowsBy out.old out.new (body_parts table source rule context (body_of (instruction.now ∷ [])))) }
+        ensures value { OnOk result ((table : List NameParts) (source : Source) (context : Context) → Agrees tape.new.cells (V.cells self.now.view.now) (cell_of source) →
+            IsLabelIfKnown source self.now.node self.now.known → context.current ≡ self.now.node → GrowsBy out.old out.new (body_parts table source rule context (body_of (instruction.now ∷ [])))) }
         ensures within { (allowed : Cell → Bool) → Within allowed (own_cells self.now.node) → Within allowed tape.old.cells → Within allowed tape.new.cells }
     {
         match instruction {
@@ -160,7 +181,8 @@ impl<'a, V: SourceView> Site<'a, V> {
     fn built_in(&self, mode: Option<NameId>, tape: &mut Tape) -> Result<RunResult, NoMemory>
         ensures before { SeenBefore tape.old.cells tape.new.cells (V.cells self.now.view.now) }
         ensures place { tape.new.place_read ≡ tape.old.place_read }
-        ensures value { IfOk result (λ value. (source : Source) → Agrees tape.new.cells (V.cells self.now.view.now) (cell_of source) → value ≡ built_in_of source mode self.now.node) }
+        ensures value { IfOk result (λ value. (source : Source) → Agrees tape.new.cells (V.cells self.now.view.now) (cell_of source) →
+            IsLabelIfKnown source self.now.node self.now.known → value ≡ built_in_of source mode self.now.node) }
         ensures within { (allowed : Cell → Bool) → Within allowed (own_cells self.now.node) → Within allowed tape.old.cells → Within allowed tape.new.cells }
     {
         match self.node {
@@ -178,16 +200,32 @@ impl<'a, V: SourceView> Site<'a, V> {
     ) -> Result<RunResult, NoMemory>
         ensures before { SeenBefore tape.old.cells tape.new.cells (V.cells self.now.view.now) }
         ensures place { tape.new.place_read ≡ tape.old.place_read }
-        ensures value { IfOk result (λ value. (source : Source) → Agrees tape.new.cells (V.cells self.now.view.now) (cell_of source) → value ≡ built_in_of source mode (NodeRef.Node node)) }
+        ensures value { IfOk result (λ value. (source : Source) → Agrees tape.new.cells (V.cells self.now.view.now) (cell_of source) →
+            IsLabelIfKnown source (NodeRef.Node node) self.now.known → value ≡ built_in_of source mode (NodeRef.Node node)) }
         ensures within { (allowed : Cell → Bool) → Within allowed (own_cells (NodeRef.Node node)) → Within allowed tape.old.cells → Within allowed tape.new.cells }
     {
         let mut result = RunResult::new(self.alloc);
-        match label_of(self.view, node, tape)? {
+        match self.label(node, tape)? {
             Some((kind, _)) => {
                 self.add_built_in(mode, node, kind, tape, &mut result)?;
                 Ok(result)
             }
             None => Ok(result),
+        }
+    }
+
+    /// What a node that is no attribute is, with an element's name; it is read unless it is known. None exactly where there is
+    /// no such node.
+    fn label(&self, node: NodeName, tape: &mut Tape) -> Result<Label, NoMemory>
+        ensures before { SeenBefore tape.old.cells tape.new.cells (V.cells self.now.view.now) }
+        ensures place { tape.new.place_read ≡ tape.old.place_read }
+        ensures value { IfOk result (λ found. (source : Source) → Agrees tape.new.cells (V.cells self.now.view.now) (cell_of source) →
+            IsLabelIfKnown source (NodeRef.Node node) self.now.known → found ≡ option_map label_of (spot_of source node.0)) }
+        ensures within { (allowed : Cell → Bool) → IsTrue (allowed (cell_at facet.Label node)) → Within allowed tape.old.cells → Within allowed tape.new.cells }
+    {
+        match self.known {
+            Some(label) => Ok(label),
+            None => label_of(self.view, node, tape),
         }
     }
 
@@ -248,7 +286,8 @@ impl<'a, V: SourceView> Site<'a, V> {
     ) -> Result<(), NoMemory>
         ensures before { SeenBefore tape.old.cells tape.new.cells (V.cells self.now.view.now) }
         ensures place { tape.new.place_read ≡ tape.old.place_read }
-        ensures value { OnOk result ((source : Source) → Agrees tape.new.cells (V.cells self.now.view.now) (cell_of source) → out.new ≡ out.old ++ applied_in source mode self.now.node) }
+        ensures value { OnOk result ((source : Source) → Agrees tape.new.cells (V.cells self.now.view.now) (cell_of source) →
+            IsLabelIfKnown source self.now.node self.now.known → out.new ≡ out.old ++ applied_in source mode self.now.node) }
         ensures within { (allowed : Cell → Bool) → Within allowed (own_cells self.now.node) → Within allowed tape.old.cells → Within allowed tape.new.cells }
     {
         match self.node {
@@ -267,10 +306,11 @@ impl<'a, V: SourceView> Site<'a, V> {
     ) -> Result<(), NoMemory>
         ensures before { SeenBefore tape.old.cells tape.new.cells (V.cells self.now.view.now) }
         ensures place { tape.new.place_read ≡ tape.old.place_read }
-        ensures value { OnOk result ((source : Source) → Agrees tape.new.cells (V.cells self.now.view.now) (cell_of source) → out.new ≡ out.old ++ applied_in source mode (NodeRef.Node node)) }
+        ensures value { OnOk result ((source : Source) → Agrees tape.new.cells (V.cells self.now.view.now) (cell_of source) →
+            IsLabelIfKnown source (NodeRef.Node node) self.now.known → out.new ≡ out.old ++ applied_in source mode (NodeRef.Node node)) }
         ensures within { (allowed : Cell → Bool) → Within allowed (own_cells (NodeRef.Node node)) → Within allowed tape.old.cells → Within allowed tape.new.cells }
     {
-        match label_of(self.view, node, tape)? {
+        match self.label(node, tape)? {
             Some((kind, _)) => self.add_kids(mode, node, kind, tape, out),
             None => Ok(()),
         }

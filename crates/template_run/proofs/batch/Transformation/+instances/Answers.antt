@@ -1,20 +1,20 @@
-use Rattle.std.proofs.Common.{◌≡◌, ◌<◌, ℕ, rules, List, [], ◌∷◌, ◌++◌, Contains, slice_get, map, length, get_or, refl, sym, ap, ◌∙◌, subst, arith}
+use Rattle.std.proofs.Common.{◌≡◌, ◌<◌, ℕ, rules, List, [], ◌∷◌, ◌++◌, Contains, slice_get, map, length, take, get_or, refl, sym, ap, ◌∙◌, subst, arith}
 use Rattle.std.proofs.lemmas.Result.{on_ok_weaker}
-use Rattle.std.proofs.lemmas.List.{append-nil, take_all}
+use Rattle.std.proofs.lemmas.List.{append-nil, take_all, length-append}
 use Rattle.std.proofs.lemmas.List.Elements.{Contains-get_or}
 use Rattle.serna_kinds.specs.Names.{NameParts}
-use Rattle.serna_kinds.specs.Tape.{TapeValue, Agrees, Within}
-use Rattle.source_model.specs.Sees.{Sees}
 use Rattle.result_origin.specs.Parts.{ResultPart, said, holes, numbered, filled}
 use Rattle.result_origin.specs.Items.{part_of}
 use Rattle.result_origin.specs.declared.items.Item.{Item}
 use Rattle.instance_store.specs.declared.request.Asked.{Asked}
 use Rattle.template_run.specs.Filled.{filling}
 use Rattle.template_run.proofs.SeenLemmas.{sees_earlier}
-use Rattle.template_run.proofs.FillLemmas.{whole_filled, item_part, as_many, past_mark, past_hole, no_hole}
+use Rattle.template_run.proofs.FillLemmas.{whole_filled, taken_at, taken_all, item_part, as_many, past_mark, past_hole, no_hole}
 use Rattle.template_run.proofs.AskedLemmas.{asks_frag}
 use Rattle.template_run.proofs.batch.Transformation.+instances.Goals as goal
-use Rattle.template_run.proofs.batch.Transformation.+instances.Goals.{fill-in-Hole+in_ok-fill_hole-in-Hole, fill-in_default+in_ok-copy-in_default+in_ok-push-in_default}
+
+abbrev Pieces : Type 0
+Pieces = List (ResultPart ℕ) × List Asked
 
 pub add_instance-returns-in_err-instance-clause-within : goal.add_instance-returns-in_err-instance-clause-within
 add_instance-returns-in_err-instance-clause-within g t c allowed table source sees keeps are may = c.instance.ensures.within allowed may
@@ -52,64 +52,71 @@ pub fill-returns-in_err-fill_hole-in-Hole-clause-within : goal.fill-returns-in_e
 fill-returns-in_err-fill_hole-in-Hole-clause-within g t c allowed table source sees keeps are may old =
     let earlier = sees_earlier c.args.self.now.names.now c.loop-item.tape.cells c.fill_hole.new.tape.cells (g.V.SourceView.cells c.args.self.now.view.now) table source c.fill_hole.ensures.before sees in
     c.fill_hole.ensures.within allowed table source sees keeps are
-    (λ one inside. may one (subst (λ (ones : List Asked). Contains ones one) c.asked-asked.ensures inside))
+    (λ one inside. may one (subst (λ (ones : List Asked). Contains ones one) (c.as_slice.ensures ∙ ap (λ (p : Pieces). p.1) c.into_parts-fragment.ensures) inside))
     (c.loop-item.invariant.3 allowed table source earlier keeps are may old)
 
 pub fill-loop-item-preserved : goal.fill-loop-item-preserved
 fill-loop-item-preserved g t c =
+    let parts : List (ResultPart Asked) = c.args.instance in
+    let items : List Item = c.into_items-item-items.result.items in
+    let taken : List Item = c.loop-item.yielded in
+    let one : Item = c.in-Some.item in
+    let same : map part_of items ≡ numbered 0 parts = c.into_items-item-items.ensures ∙ ap (λ (p : Pieces). p.0) c.into_parts-fragment.ensures in
+    let at =
+    taken_at c.into_iter-item-iterator.result c.loop-item.item-iterator c.next.new.self items taken one c.into_iter-item-iterator.ensures.into_iter_gives.0 c.loop-item.yielded_by c.in-Some.ensures.steps in
+    let within : length taken < length parts = omega (arith, as_many items parts same, at.0) in
+    let here = item_part items (length taken) one (numbered 0 parts) at.0 at.1 same in (
+      c.loop-item.invariant.0,
+      c.loop-item.invariant.1,
+      λ table source sees keeps.
+          let fill = filling table c.args.self.now.style.now c.args.left source in
+          past_mark fill parts (length taken) c.args.out.now c.loop-item.out c.push.new.self within (c.loop-item.invariant.2 table source sees keeps) (part_of one) here
+          (no_hole one c.in_default.not-Hole) (c.in_ok-push-in_default.ensures.ok)
+          ∙ ap (λ (n : ℕ). c.args.out.now ++ said (filled fill (take n parts))) (sym (length-append taken (one ∷ []))),
+      c.loop-item.invariant.3,
+    )
+
+pub fill-loop-item-preserved-in-Continue-1 : goal.fill-loop-item-preserved-in-Continue-1
+fill-loop-item-preserved-in-Continue-1 g t c =
     let view = g.V.SourceView.cells c.args.self.now.view.now in
     let names : List NameParts = c.args.self.now.names.now in
-    let parts : List (ResultPart Asked) = c.args.instance.now in
-    let same : map part_of c.items-item-items.result.now ≡ numbered 0 parts = c.items-item-items.ensures ∙ c.fragment.ensures in
-    let within : c.loop-item.item-index < length parts = omega (arith, as_many c.items-item-items.result.now parts same, c.loop-item-test.true) in
-    let here = item_part c.items-item-items.result.now c.loop-item.item-index c.item-item.result (numbered 0 parts) (omega (arith, c.loop-item-test.true)) c.item-item.is same in (
-      λ other agrees.
-          elim c.match-item.branch [
-            | fill-in-Hole+in_ok-fill_hole-in-Hole w ↦
-                c.loop-item.invariant.0 other (w.fill_hole.ensures.before other (subst (λ (tape : TapeValue). Agrees tape.cells view other) w.tape-is agrees))
-            | fill-in_default+in_ok-copy-in_default+in_ok-push-in_default w ↦
-                c.loop-item.invariant.0 other (subst (λ (tape : TapeValue). Agrees tape.cells view other) w.tape-is agrees)
-          ],
-      elim c.match-item.branch [
-        | fill-in-Hole+in_ok-fill_hole-in-Hole w ↦ ap (λ (tape : TapeValue). tape.place_read) w.tape-is ∙ w.fill_hole.ensures.place ∙ c.loop-item.invariant.1
-        | fill-in_default+in_ok-copy-in_default+in_ok-push-in_default w ↦ ap (λ (tape : TapeValue). tape.place_read) w.tape-is ∙ c.loop-item.invariant.1
-      ],
+    let parts : List (ResultPart Asked) = c.args.instance in
+    let items : List Item = c.into_items-item-items.result.items in
+    let taken : List Item = c.loop-item.yielded in
+    let one : Item = c.in-Some.item in
+    let same : map part_of items ≡ numbered 0 parts = c.into_items-item-items.ensures ∙ ap (λ (p : Pieces). p.0) c.into_parts-fragment.ensures in
+    let at =
+    taken_at c.into_iter-item-iterator.result c.loop-item.item-iterator c.next.new.self items taken one c.into_iter-item-iterator.ensures.into_iter_gives.0 c.loop-item.yielded_by c.in-Some.ensures.steps in
+    let within : length taken < length parts = omega (arith, as_many items parts same, at.0) in
+    let here = item_part items (length taken) one (numbered 0 parts) at.0 at.1 same in
+    let asks : c.as_slice.result.now ≡ holes parts = c.as_slice.ensures ∙ ap (λ (p : Pieces). p.1) c.into_parts-fragment.ensures in (
+      λ other agrees. c.loop-item.invariant.0 other (c.fill_hole.ensures.before other agrees),
+      c.fill_hole.ensures.place ∙ c.loop-item.invariant.1,
       λ table source sees keeps.
-          elim c.match-item.branch [
-            | fill-in-Hole+in_ok-fill_hole-in-Hole w ↦
-                let now = subst (λ (tape : TapeValue). Sees names tape.cells view table source) w.tape-is sees in
-                past_hole (filling table c.args.self.now.style.now c.args.left source) parts c.loop-item.item-index c.args.out.now c.loop-item.out c.match-item.out within
-                (c.loop-item.invariant.2 table source (sees_earlier names c.loop-item.tape.cells w.fill_hole.new.tape.cells view table source w.fill_hole.ensures.before now) keeps) w.in-Hole.hole
-                (subst (λ (one : Item). part_of one ≡ get_or (numbered 0 parts) c.loop-item.item-index (part_of one)) w.in-Hole.is here)
-                (λ one there.
-                w.out-is ∙ w.in_ok-fill_hole-in-Hole.ensures.value table source one now keeps (ap (λ (ones : List Asked). slice_get ones w.in-Hole.hole) c.asked-asked.ensures ∙ there))
-            | fill-in_default+in_ok-copy-in_default+in_ok-push-in_default w ↦
-                past_mark (filling table c.args.self.now.style.now c.args.left source) parts c.loop-item.item-index c.args.out.now c.loop-item.out c.match-item.out within
-                (c.loop-item.invariant.2 table source (subst (λ (tape : TapeValue). Sees names tape.cells view table source) w.tape-is sees) keeps) (part_of c.item-item.result) here
-                (no_hole c.item-item.result w.in_default.not-Hole)
-                (w.out-is ∙ (w.in_ok-push-in_default.ensures.ok ∙ ap (λ (it : Item). c.loop-item.out ++ part_of it ∷ []) w.in_ok-copy-in_default.ensures))
-          ],
+          let fill = filling table c.args.self.now.style.now c.args.left source in
+          let earlier = sees_earlier names c.loop-item.tape.cells c.fill_hole.new.tape.cells view table source c.fill_hole.ensures.before sees in
+          past_hole fill parts (length taken) c.args.out.now c.loop-item.out c.fill_hole.new.out within (c.loop-item.invariant.2 table source earlier keeps) c.in-Hole.hole
+          (subst (λ (it : Item). part_of it ≡ get_or (numbered 0 parts) (length taken) (part_of it)) c.in-Hole.is here)
+          (λ asked there. c.in_ok-fill_hole-in-Hole.ensures.value table source asked sees keeps (ap (λ (ones : List Asked). slice_get ones c.in-Hole.hole) asks ∙ there))
+          ∙ ap (λ (n : ℕ). c.args.out.now ++ said (filled fill (take n parts))) (sym (length-append taken (one ∷ []))),
       λ allowed table source sees keeps are may old.
-          elim c.match-item.branch [
-            | fill-in-Hole+in_ok-fill_hole-in-Hole w ↦
-                let now = subst (λ (tape : TapeValue). Sees names tape.cells view table source) w.tape-is sees in
-                subst (λ (tape : TapeValue). Within allowed tape.cells) (sym w.tape-is)
-                (w.fill_hole.ensures.within allowed table source now keeps are
-                (λ one inside. may one (subst (λ (ones : List Asked). Contains ones one) c.asked-asked.ensures inside))
-                (c.loop-item.invariant.3 allowed table source (sees_earlier names c.loop-item.tape.cells w.fill_hole.new.tape.cells view table source w.fill_hole.ensures.before now) keeps are may old))
-            | fill-in_default+in_ok-copy-in_default+in_ok-push-in_default w ↦
-                subst (λ (tape : TapeValue). Within allowed tape.cells) (sym w.tape-is)
-                (c.loop-item.invariant.3 allowed table source (subst (λ (tape : TapeValue). Sees names tape.cells view table source) w.tape-is sees) keeps are may old)
-          ],
+          let earlier = sees_earlier names c.loop-item.tape.cells c.fill_hole.new.tape.cells view table source c.fill_hole.ensures.before sees in
+          c.fill_hole.ensures.within allowed table source sees keeps are (λ asked inside. may asked (subst (λ (ones : List Asked). Contains ones asked) asks inside))
+          (c.loop-item.invariant.3 allowed table source earlier keeps are may old),
     )
 
 pub fill-returns-clause-value : goal.fill-returns-clause-value
 fill-returns-clause-value g t c table source sees keeps =
-    let parts : List (ResultPart Asked) = c.args.instance.now in
-    let many = as_many c.items-item-items.result.now parts (c.items-item-items.ensures ∙ c.fragment.ensures) in
+    let parts : List (ResultPart Asked) = c.args.instance in
+    let items : List Item = c.into_items-item-items.result.items in
+    let gives = c.into_iter-item-iterator.ensures.into_iter_gives in
+    let many = as_many items parts (c.into_items-item-items.ensures ∙ ap (λ (p : Pieces). p.0) c.into_parts-fragment.ensures) in
+    let all =
+    taken_all c.into_iter-item-iterator.result c.loop-item.item-iterator c.next.new.self items c.loop-item.yielded (gives.1 ∙ c.into_items-item-items.result.ok.0) c.loop-item.yielded_by
+    c.in-None.ensures.steps in
     c.loop-item.invariant.2 table source sees keeps
     ∙ ap (λ (ps : List (ResultPart Asked)). c.args.out.now ++ said (filled (filling table c.args.self.now.style.now c.args.left source) ps))
-    (take_all c.loop-item.item-index parts (omega (arith, many, c.loop-item-test.false)))
+    (take_all (length c.loop-item.yielded) parts (omega (arith, many, all)))
 
 pub fill_hole-returns-in-None-clause-value : goal.fill_hole-returns-in-None-clause-value
 fill_hole-returns-in-None-clause-value g t c table source one sees keeps there =

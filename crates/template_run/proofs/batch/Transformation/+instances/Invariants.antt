@@ -1,4 +1,4 @@
-use Rattle.std.proofs.Common.{◌≡◌, ◌+◌, ◌*◌, ◌++◌, List, Bool, take, Contains}
+use Rattle.std.proofs.Common.{◌≡◌, ◌+◌, ◌*◌, ◌++◌, List, Bool, length, take, Contains}
 use Rattle.serna_kinds.specs.declared.cells.Cell.{Cell}
 use Rattle.serna_kinds.specs.Names.{NameParts}
 use Rattle.serna_kinds.specs.Tape.{SeenBefore, Within}
@@ -26,7 +26,7 @@ invariant-fill-loop-item g l =
     SeenBefore l.initial.tape.cells l.tape.cells (g.V.SourceView.cells l.self.view.now)
     × (l.tape.place_read ≡ l.initial.tape.place_read)
     × ((table : List NameParts) (source : Source) → Sees l.self.names.now l.tape.cells (g.V.SourceView.cells l.self.view.now) table source →
-    KeepsNames l.self.names.now table l.self.style.now → l.out ≡ l.initial.out ++ said (filled (filling table l.self.style.now l.left source) (take l.item-index l.instance)))
+    KeepsNames l.self.names.now table l.self.style.now → l.out ≡ l.initial.out ++ said (filled (filling table l.self.style.now l.left source) (take (length l.yielded) l.fn.instance)))
     × ((allowed : Cell → Bool) (table : List NameParts) (source : Source) → Sees l.self.names.now l.tape.cells (g.V.SourceView.cells l.self.view.now) table source →
-    KeepsNames l.self.names.now table l.self.style.now → AreAllowed allowed source → ((asked : Asked) → Contains (holes l.instance) asked → MayRead allowed asked.request) →
+    KeepsNames l.self.names.now table l.self.style.now → AreAllowed allowed source → ((asked : Asked) → Contains (holes l.fn.instance) asked → MayRead allowed asked.request) →
     Within allowed l.initial.tape.cells → Within allowed l.tape.cells)

@@ -1,4 +1,4 @@
-use Rattle.std.proofs.Common.{◌∙◌, sym}
+use Rattle.std.proofs.Common.{◌∙◌, refl, sym}
 use Rattle.std.proofs.lemmas.Result.{IfOk-weaker}
 use Rattle.serna_kinds.specs.Tape.{Agrees}
 use Rattle.source_model.specs.Source.{Source}
@@ -16,20 +16,20 @@ pub returns-in_err-choice-clause-within : goal.returns-in_err-choice-clause-with
 returns-in_err-choice-clause-within g c allowed may = c.passed_here.ensures.within allowed (reads_passed allowed c.args.request.now c.as_slice.result.now c.as_slice.ensures may)
 
 pub returns-clause-before : goal.returns-clause-before
-returns-clause-before g c other agrees = c.passed_here.ensures.before other (c.run_body.ensures.before other agrees)
+returns-clause-before g c other agrees = c.passed_here.ensures.before other (c.run.ensures.before other agrees)
 
 pub returns-clause-within : goal.returns-clause-within
 returns-clause-within g c allowed may old =
-    c.run_body.ensures.within allowed may.0
+    c.run.ensures.within allowed may.0
     (c.passed_here.ensures.within allowed (reads_passed allowed c.args.request.now c.as_slice.result.now c.as_slice.ensures may) old)
 
 pub returns-clause-value : goal.returns-clause-value
 returns-clause-value g c =
-    IfOk-weaker c.run_body.result _ _
+    IfOk-weaker c.run.result _ _
     (λ value gives table source other sees keeps stands found left.
-    let earlier = λ (s : Source) (agrees : Agrees c.run_body.new.tape.cells (g.V.SourceView.cells c.args.self.now.view.now) (cell_of s)). c.run_body.ensures.before (cell_of s) agrees in
-    gives table source other sees stands
-    ∙ is_answer c.args.self.now.names.now table c.run_body.new.tape.cells (g.V.SourceView.cells c.args.self.now.view.now) c.args.self.now.style.now source c.args.request.now other c.args.label
+    let earlier = λ (s : Source) (agrees : Agrees c.run.new.tape.cells (g.V.SourceView.cells c.args.self.now.view.now) (cell_of s)). c.run.ensures.before (cell_of s) agrees in
+    gives table source c.args.request.now other sees.agrees (found source (sees.agrees)).1 refl refl
+    ∙ is_answer c.args.self.now.names.now table c.run.new.tape.cells (g.V.SourceView.cells c.args.self.now.view.now) c.args.self.now.style.now source c.args.request.now other c.args.label
     c.in_ok-choice.choice c.as_slice.result.now left sees keeps found c.in_ok-choice.ensures c.as_slice.ensures
     (sym (c.in_ok-passed_here.ensures.value source (earlier source sees.agrees)) ∙ c.if-not-branch.false))
-    c.run_body.ensures.value
+    c.run.ensures.value

@@ -6,6 +6,7 @@ use Rattle.source_model.specs.Source.{Source}
 use Rattle.source_model.specs.Cells.{cell_of}
 use Rattle.style_sheet.specs.Bodies.{body_of, size_of}
 use Rattle.template_run.specs.Instances.{Context, body_parts}
+use Rattle.template_run.specs.Labels.{IsLabelIfKnown}
 use Rattle.template_run.specs.Results.{GrowsBy}
 use Rattle.template_run.specs.Allowed.{own_cells}
 use Rattle.template_run.proofs.body.Site.+instructions.Given as goal
@@ -22,6 +23,7 @@ abbrev pub invariant-add_body-loop-instruction : goal.invariant-add_body-loop-in
 invariant-add_body-loop-instruction g l =
     SeenBefore l.initial.tape.cells l.tape.cells (g.V.SourceView.cells l.self.view.now)
     × (l.tape.place_read ≡ l.initial.tape.place_read)
-    × ((table : List NameParts) (source : Source) (context : Context) → Agrees l.tape.cells (g.V.SourceView.cells l.self.view.now) (cell_of source) → context.current ≡ l.self.node →
+    × ((table : List NameParts) (source : Source) (context : Context) → Agrees l.tape.cells (g.V.SourceView.cells l.self.view.now) (cell_of source) → IsLabelIfKnown source l.self.node l.self.known →
+    context.current ≡ l.self.node →
     GrowsBy l.initial.out l.out (body_parts table source l.rule context (body_of (take l.instruction-index l.instruction-items))))
     × ((allowed : Cell → Bool) → Within allowed (own_cells l.self.node) → Within allowed l.initial.tape.cells → Within allowed l.tape.cells)
