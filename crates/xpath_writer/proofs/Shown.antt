@@ -125,6 +125,10 @@ all_moved before whole left none had = sym (append-nil before) ∙ ap (λ (l : L
 pub renamed : {E : Type 0} (r : Result (Unit {0}) E) (before after : List ℕ) (a b : List Word) → a ≡ b → OnOk r (after ≡ before ++ spelled a) → OnOk r (after ≡ before ++ spelled b)
 renamed r before after a b same h = subst (λ (words : List Word). OnOk r (after ≡ before ++ spelled words)) same h
 
+-- a text that goes on is the one that was to be written
+pub follows : {E : Type 0} (r : Result (Unit {0}) E) (before middle after : List ℕ) (left whole : List Word) → middle ++ spelled left ≡ before ++ spelled whole → OnOk r (after ≡ middle ++ spelled left) → OnOk r (after ≡ before ++ spelled whole)
+follows r before middle after left whole same h = subst (λ (text : List ℕ). OnOk r (after ≡ text)) same h
+
 -- words behind words
 pub both : {E : Type 0} (r : Result (Unit {0}) E) (before middle after : List ℕ) (a b : List Word) → middle ≡ before ++ spelled a → OnOk r (after ≡ middle ++ spelled b) → OnOk r (after ≡ before ++ spelled (a ++ b))
 both (Ok x) before middle after a b first second = second ∙ ap (λ l. l ++ spelled b) first ∙ append_assoc before (spelled a) (spelled b) ∙ ap (λ l. before ++ l) (sym (spelled-append a b))

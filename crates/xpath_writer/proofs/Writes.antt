@@ -1,5 +1,5 @@
 -- What a loop of the writer adds in one round, over plain lists.
-use Rattle.std.proofs.Common.{◌≡◌, ◌<◌, ◌+◌, ◌-◌, ◌&&◌, ℕ, zero, suc, Bool, true, false, cond, nat_eq, List, [], ◌∷◌, ◌++◌, length, map, drop, get_or, Some, None, Result, Ok, Err, OnOk, unwrap_or, append_assoc, sym, refl, ap, ◌∙◌, arith}
+use Rattle.std.proofs.Common.{◌≡◌, ◌<◌, ◌+◌, ◌-◌, ◌&&◌, ℕ, zero, suc, Bool, true, false, cond, nat_eq, List, [], ◌∷◌, ◌++◌, length, map, drop, get_or, Some, None, Result, Ok, Err, OnOk, unwrap_or, append_assoc, append-nil, if◌then◌else◌, IsTrue, ◌↔◌, sym, refl, ap, ◌∙◌, arith}
 use Rattle.std.specs.List.{slice_get}
 use Rattle.std.specs.Option.{option_map}
 use Rattle.std.proofs.lemmas.Bool.Decides.{nat_tests}
@@ -9,7 +9,8 @@ use Rattle.serna_kinds.specs.declared.expressions.CompareOp.{CompareOp}
 use Rattle.xpath_trees.specs.declared.expr.ArithOp.{ArithOp}
 use Rattle.xpath_trees.specs.declared.expr.Step.{Step, out-Step}
 use Rattle.xpath_tokens.specs.declared.symbol.Operator.{Operator}
-use Rattle.xpath_writer.specs.Writing.{Word, Written, WrittenStep, spelled, mark, operator_kind, operand, flag_behind, further_operands, joined, before_next, compares_rank, ariths_rank, is_empty, is_bare, is_any_node, is_descendant_or_self, declares, declared_prefix, prefix_among, short_or, short_for, full_step, shown, shown_step}
+use Rattle.xpath_tokens.specs.declared.tokens.Kind.TheVariants as kind
+use Rattle.xpath_writer.specs.Writing.{Word, Written, WrittenStep, spelled, mark, operator_kind, operand, flag_behind, further_operands, joined, before_next, compares_rank, ariths_rank, is_empty, steps_words, root_words, absolute_words, is_bare, is_any_node, is_descendant_or_self, declares, declared_prefix, prefix_among, short_or, short_for, full_step, shown, shown_step}
 use Rattle.xpath_writer.proofs.Shown.{shown-step, spelled-append}
 
 pub item_at : {X : Type 0} (xs : List X) (i : ℕ) (x : X) → i < length xs → x ≡ get_or xs i x → drop i xs ≡ x ∷ drop (i + 1) xs
@@ -89,6 +90,18 @@ nothing_left n i lt = grind (arith, nat_tests)
 pub last_at : {X Y : Type 0} (f : X → Y) (xs : List X) (i : ℕ) → i < length xs → is_empty (map f (drop (i + 1) xs)) ≡ nat_eq (i + 1) (length xs)
 last_at f xs i lt =
     is_empty-map f (drop (i + 1) xs) ∙ empty_by_length (drop (i + 1) xs) ∙ ap (λ n. nat_eq n 0) (length-drop (i + 1) xs) ∙ nothing_left (length xs) i lt
+
+pub empty_by_test : {X : Type 0} (xs : List X) (b : Bool) → IsTrue b ↔ (xs ≡ []) → is_empty xs ≡ b
+empty_by_test [] b test = sym (test.1 refl)
+empty_by_test (x ∷ xs) true test = cc (test.0 refl)
+empty_by_test (x ∷ xs) false test = refl
+
+-- `/` alone is written before the steps that it stands for
+pub root_then : (before alone : Bool) (steps : List WrittenStep) → is_empty steps ≡ alone → absolute_words before steps ≡ (if alone then root_words before else []) ++ steps_words (Some kind.Slash) steps
+root_then before true [] last = sym (append-nil (root_words before))
+root_then before false [] last = cc last
+root_then before true (s ∷ ss) last = cc last
+root_then before false (s ∷ ss) last = refl
 
 module _ (spaces : List Space) (names : List NameParts) where
   pub wide-is : (s : Step) → (shown_step spaces names s).is_wide ≡ (is_descendant_or_self (out-Step s).axis && is_bare (out-Step s).test (out-Step s).predicates)

@@ -1,6 +1,6 @@
 //! Writes an expression so that it reads back as itself.
 
-ghost use Rattle.std.specs.Prelude.{◌≡◌, ℕ, ◌+◌, ◌++◌, ◌∷◌, [], List, map, slice_get, ◌==◌, codes, encode_utf8_all, IfOk, OnOk};
+ghost use Rattle.std.specs.Prelude.{◌≡◌, ℕ, ◌+◌, ◌++◌, ◌∷◌, [], List, map, slice_get, ◌==◌, if◌then◌else◌, codes, encode_utf8_all, IfOk, OnOk};
 ghost use Rattle.std.specs.String.{string_bytes};
 ghost use Rattle.std.specs.List.{list_any};
 ghost use Rattle.std.specs.Option.{option_map};
@@ -13,11 +13,12 @@ ghost use Rattle.xpath_tokens.specs.Tokens.{tokens_of};
 ghost use Rattle.xpath_tokens.specs.Named.{HasNames};
 ghost use Rattle.xpath_syntax.specs.Reading.{IsReading};
 ghost use Rattle.xpath_parser.specs.Trees.{level_of, rank};
-ghost use Rattle.xpath_writer.specs.Writing.{WrittenStep, spelled, mark_text, mark, operator_kind, is_named, axis_text, function_text, text_function_text, quote_for, quoted, qualified_text, operand, further_operands, joined_by, compares_rank, ariths_rank, sign_words, predicate_words, argument_words, is_any_node, is_bare, is_descendant_or_self, is_empty, axis_words, short_kind, short_for, type_words, slash_words, is_slash, steps_words, root_words, absolute_words, name_text, stands_for, declared_prefix, prefix_among, prefix_for, test_words, shown, shown_step, written, before_next};
+ghost use Rattle.xpath_writer.specs.Writing.{WrittenStep, spelled, mark_text, mark, operator_kind, is_named, axis_text, function_text, text_function_text, quote_for, quoted, qualified_text, operand, further_operands, joined_by, compares_rank, ariths_rank, sign_words, predicate_words, argument_words, is_any_node, is_bare, is_descendant_or_self, is_empty, axis_words, short_kind, short_for, type_words, slash_words, is_slash, steps_words, root_words, name_text, stands_for, declared_prefix, prefix_among, prefix_for, test_words, shown, shown_start, shown_step, written, before_next};
 
 use crate::NoMemory;
 use serna_kinds::{
-    Axis, Chars, CompareOp, NameId, NameTable, NodeTest, Spaces, TextFunction, is_name, parted,
+    Axis, Chars, CompareOp, NameId, NameTable, NodeTest, Spaces, TextFunction, XML_URI, is_name,
+    parted,
 };
 use sqlite_items::Items;
 use std::alloc::Global;
@@ -25,10 +26,8 @@ use xpath_parser::{level_of, rank};
 use xpath_tokens::{Kind, Operator, uri_in};
 use xpath_trees::{ArithOp, Expr, Function, PathStart, Signs, Step};
 
-// The prefix `xml` and its URI (Namespaces in XML 1.0, section 3).
+// The prefix of `XML_URI` (Namespaces in XML 1.0, section 3).
 const XML_PREFIX: &str = "xml";
-
-const XML_URI: &str = "http://www.w3.org/XML/1998/namespace";
 
 /// The least rank of what predicates may follow: it is no operator, no path and has no predicates.
 const PRIMARY: u8 = 11;
@@ -416,11 +415,13 @@ fn is_wide(step: &Step, spaces: &Spaces, names: &NameTable) -> bool
     is_descendant_or_self(step.axis) && bare
 }
 
-/// `/` alone, in parentheses before an operator that would be read as a name there.
-fn push_root(out: &mut String, before: bool) -> Result<(), NoMemory>
-    ensures { OnOk result (string_bytes out.new ≡ string_bytes out.old ++ spelled (root_words before)) }
+/// Adds `/` where no step follows, in parentheses before an operator that would be read as a name there.
+fn push_root(out: &mut String, alone: bool, before: bool) -> Result<(), NoMemory>
+    ensures { OnOk result (string_bytes out.new ≡ string_bytes out.old ++ spelled (if alone then root_words before else [])) }
 {
-    if before {
+    if !alone {
+        Ok(())
+    } else if before {
         push_mark(out, Kind::Open)?;
         push_mark(out, Kind::Slash)?;
         push_mark(out, Kind::Close)
@@ -612,21 +613,29 @@ fn push_steps(
     Ok(())
 }
 
-/// Adds a path from the root.
+/// Adds the start of a path, which is alone where no step follows; the result is the slash before the first step.
 #[cycle(write)]
-fn push_absolute(
+fn push_start(
     out: &mut String,
-    steps: &[Step],
+    start: &PathStart,
+    alone: bool,
     before: bool,
     spaces: &Spaces,
     names: &NameTable,
-) -> Result<(), NoMemory>
-    ensures { OnOk result (string_bytes out.new ≡ string_bytes out.old ++ spelled (absolute_words before (map (shown_step spaces.now names.now) steps.now))) }
+) -> Result<Option<Kind>, NoMemory>
+    ensures { IfOk result (λ slash. (steps : List WrittenStep) → is_empty steps ≡ alone
+        → string_bytes out.new ++ spelled (steps_words slash steps) ≡ string_bytes out.old ++ spelled (shown_start spaces.now names.now start.now before steps)) }
 {
-    if steps.is_empty() {
-        push_root(out, before)
-    } else {
-        push_steps(out, steps, Some(Kind::Slash), spaces, names)
+    match start {
+        PathStart::Context => Ok(None),
+        PathStart::Root => {
+            push_root(out, alone, before)?;
+            Ok(Some(Kind::Slash))
+        }
+        PathStart::From(inner) => {
+            push_operand(out, inner.get(), FILTER, false, spaces, names)?;
+            Ok(Some(Kind::Slash))
+        }
     }
 }
 
@@ -672,18 +681,35 @@ fn push_joined(
     Ok(())
 }
 
+/// Adds the first operand of a chain of comparisons.
+#[cycle(write)]
+fn push_first_compared(
+    out: &mut String,
+    first: &Expr,
+    others: &[(CompareOp, Expr)],
+    before: bool,
+    spaces: &Spaces,
+    names: &NameTable,
+) -> Result<(), NoMemory>
+    ensures { OnOk result (string_bytes out.new ≡ string_bytes out.old ++ spelled (operand (compares_rank others.now + 1) (before_next (option_map (λ x. Operator.Compare x.0) (slice_get others.now 0)) before) (shown spaces.now names.now first.now))) }
+{
+    let chain_rank = compares_rank(others);
+    let next = before_next(compare_at(others, 0), before);
+    push_operand(out, first, chain_rank + 1, next, spaces, names)
+}
+
 /// Adds the operands of a chain of comparisons behind its first one.
 #[cycle(write)]
 fn push_compared(
     out: &mut String,
     others: &[(CompareOp, Expr)],
-    least: u8,
     before: bool,
     spaces: &Spaces,
     names: &NameTable,
 ) -> Result<(), NoMemory>
-    ensures { OnOk result (string_bytes out.new ≡ string_bytes out.old ++ spelled (further_operands least before (map (λ x. (Operator.Compare x.0, shown spaces.now names.now x.1)) others.now))) }
+    ensures { OnOk result (string_bytes out.new ≡ string_bytes out.old ++ spelled (further_operands (compares_rank others.now + 1) before (map (λ x. (Operator.Compare x.0, shown spaces.now names.now x.1)) others.now))) }
 {
+    let least = compares_rank(others) + 1;
     for (index, (op, operand)) in others.iter().enumerate() {
         let next = before_next(compare_at(others, index + 1), before);
         push_further(
@@ -699,18 +725,35 @@ fn push_compared(
     Ok(())
 }
 
+/// Adds the first operand of a chain of operators on numbers.
+#[cycle(write)]
+fn push_first_computed(
+    out: &mut String,
+    first: &Expr,
+    others: &[(ArithOp, Expr)],
+    before: bool,
+    spaces: &Spaces,
+    names: &NameTable,
+) -> Result<(), NoMemory>
+    ensures { OnOk result (string_bytes out.new ≡ string_bytes out.old ++ spelled (operand (ariths_rank others.now + 1) (before_next (option_map (λ x. Operator.Arith x.0) (slice_get others.now 0)) before) (shown spaces.now names.now first.now))) }
+{
+    let chain_rank = ariths_rank(others);
+    let next = before_next(arith_at(others, 0), before);
+    push_operand(out, first, chain_rank + 1, next, spaces, names)
+}
+
 /// Adds the operands of a chain of operators on numbers behind its first one.
 #[cycle(write)]
 fn push_computed(
     out: &mut String,
     others: &[(ArithOp, Expr)],
-    least: u8,
     before: bool,
     spaces: &Spaces,
     names: &NameTable,
 ) -> Result<(), NoMemory>
-    ensures { OnOk result (string_bytes out.new ≡ string_bytes out.old ++ spelled (further_operands least before (map (λ x. (Operator.Arith x.0, shown spaces.now names.now x.1)) others.now))) }
+    ensures { OnOk result (string_bytes out.new ≡ string_bytes out.old ++ spelled (further_operands (ariths_rank others.now + 1) before (map (λ x. (Operator.Arith x.0, shown spaces.now names.now x.1)) others.now))) }
 {
+    let least = ariths_rank(others) + 1;
     for (index, (op, operand)) in others.iter().enumerate() {
         let next = before_next(arith_at(others, index + 1), before);
         push_further(
@@ -766,7 +809,7 @@ fn push_negated(
 fn push_call(
     out: &mut String,
     function: Function,
-    arguments: &[Expr],
+    arguments: &Items<Expr>,
     spaces: &Spaces,
     names: &NameTable,
 ) -> Result<(), NoMemory>
@@ -774,7 +817,7 @@ fn push_call(
 {
     push_word(out, function_text(function))?;
     push_mark(out, Kind::Open)?;
-    push_arguments(out, arguments, spaces, names)?;
+    push_arguments(out, arguments.as_slice(), spaces, names)?;
     push_mark(out, Kind::Close)
 }
 
@@ -801,28 +844,20 @@ fn push_expr(
         Expr::And(operands) => push_joined(out, Operator::And, operands, before, spaces, names),
         Expr::Compare(first, others) => {
             let others = others.as_slice();
-            let least = compares_rank(others) + 1;
-            let next = before_next(compare_at(others, 0), before);
-            push_operand(out, first.get(), least, next, spaces, names)?;
-            push_compared(out, others, least, before, spaces, names)
+            push_first_compared(out, first.get(), others, before, spaces, names)?;
+            push_compared(out, others, before, spaces, names)
         }
         Expr::Arith(first, others) => {
             let others = others.as_slice();
-            let least = ariths_rank(others) + 1;
-            let next = before_next(arith_at(others, 0), before);
-            push_operand(out, first.get(), least, next, spaces, names)?;
-            push_computed(out, others, least, before, spaces, names)
+            push_first_computed(out, first.get(), others, before, spaces, names)?;
+            push_computed(out, others, before, spaces, names)
         }
         Expr::Negate(signs, inner) => push_negated(out, *signs, inner.get(), before, spaces, names),
         Expr::Union(operands) => push_joined(out, Operator::Union, operands, before, spaces, names),
-        Expr::Path(start, steps) => match start {
-            PathStart::Context => push_steps(out, steps.as_slice(), None, spaces, names),
-            PathStart::Root => push_absolute(out, steps.as_slice(), before, spaces, names),
-            PathStart::From(inner) => {
-                push_operand(out, inner.get(), FILTER, false, spaces, names)?;
-                push_steps(out, steps.as_slice(), Some(Kind::Slash), spaces, names)
-            }
-        },
+        Expr::Path(start, steps) => {
+            let behind = push_start(out, start, steps.is_empty(), before, spaces, names)?;
+            push_steps(out, steps.as_slice(), behind, spaces, names)
+        }
         Expr::Filter(inner, predicates) => {
             push_operand(out, inner.get(), PRIMARY, false, spaces, names)?;
             push_predicates(out, predicates.as_slice(), spaces, names)
@@ -830,9 +865,7 @@ fn push_expr(
         Expr::Text(text) => push_literal(out, text.as_text()),
         Expr::Number(number) => push_number(out, *number),
         Expr::Variable(name) => push_variable(out, *name, names),
-        Expr::Call(function, arguments) => {
-            push_call(out, *function, arguments.as_slice(), spaces, names)
-        }
+        Expr::Call(function, arguments) => push_call(out, *function, arguments, spaces, names),
     }
 }
 

@@ -1,5 +1,7 @@
 -- What each function of the writer adds.
 use Rattle.std.proofs.Common.{◌≡◌, ◌+◌, ℕ, Bool, false, Some, None, List, [], ◌∷◌, ◌++◌, map, drop, append_assoc, sym, ap, ◌∙◌, refl, arith}
+use Rattle.std.specs.List.{slice_get}
+use Rattle.std.specs.Option.{option_map}
 use Rattle.std.specs.String.{string_bytes}
 use Rattle.std.proofs.lemmas.List.{drop_all}
 use Rattle.serna_kinds.specs.declared.expressions.CompareOp.{CompareOp}
@@ -11,9 +13,9 @@ use Rattle.xpath_parser.specs.Trees.{rank}
 use Rattle.xpath_tokens.specs.declared.symbol.Operator.{Operator}
 use Rattle.xpath_tokens.specs.declared.symbol.Operator.TheVariants as operator
 use Rattle.xpath_tokens.specs.declared.tokens.Kind.TheVariants as kind
-use Rattle.xpath_writer.specs.Writing.{Word, Written, WrittenStep, spelled, mark, operator_kind, predicate_words, argument_words, further_arguments, axis_words, test_words, is_bare, short_or, short_for, steps_words, absolute_words, operand, joined, joined_by, before_next, quoted, function_text, sign_words, compares_rank, ariths_rank, shown, shown_start, shown_step}
-use Rattle.xpath_writer.proofs.Shown.{worded, moved, all_moved, renamed, both, spelled-append, shown-Or, shown-And, shown-Compare, shown-Arith, shown-Negate, shown-Union, shown-Path, shown-Filter, shown-Text, shown-Number, shown-Variable, shown-Call, shown-Context, shown-Root, shown-From}
-use Rattle.xpath_writer.proofs.Writes.{item_at, map_map, others_from, further_next, chain_written, chain_ends, compares_rank-map, ariths_rank-map, last_at, step_words-is, full_words}
+use Rattle.xpath_writer.specs.Writing.{Word, Written, WrittenStep, spelled, mark, operator_kind, predicate_words, argument_words, further_arguments, axis_words, test_words, is_bare, short_or, short_for, steps_words, operand, joined, joined_by, before_next, quoted, function_text, sign_words, compares_rank, ariths_rank, shown, shown_start, shown_step}
+use Rattle.xpath_writer.proofs.Shown.{worded, moved, all_moved, renamed, follows, both, spelled-append, shown-Or, shown-And, shown-Compare, shown-Arith, shown-Negate, shown-Union, shown-Path, shown-Filter, shown-Text, shown-Number, shown-Variable, shown-Call, shown-Context, shown-Root, shown-From}
+use Rattle.xpath_writer.proofs.Writes.{item_at, map_map, others_from, further_next, chain_written, chain_ends, compares_rank-map, ariths_rank-map, is_empty-map, empty_by_test, last_at, root_then, step_words-is, full_words}
 use Rattle.xpath_writer.proofs.write.+write.Goals as goal
 
 -- Lists
@@ -102,6 +104,13 @@ push_joined-returns t c =
     ∙ ap (λ (es : List Expr). string_bytes c.args.out.now ++ spelled (joined_by c.args.op least c.args.before (map w es))) (sym c.in-Some.ensures.cases.0 ∙ c.as_slice.ensures)
     ∙ ap (λ n. string_bytes c.args.out.now ++ spelled (joined_by c.args.op (n + 1) c.args.before (map w c.args.operands.now))) (c.rank-least.ensures ∙ ap rank c.level_of.ensures)
 
+pub push_first_compared-returns : goal.push_first_compared-returns
+push_first_compared-returns t c =
+    let xs = c.args.others.now in
+    let first = shown c.args.spaces.now c.args.names.now c.args.first.now in
+    renamed _ _ _ _ _ (ap (λ n. operand (n + 1) c.before_next-next.result first) c.compares_rank-chain_rank.ensures
+    ∙ ap (λ flag. operand (compares_rank xs + 1) flag first) (c.before_next-next.ensures ∙ ap (λ o. before_next o c.args.before) c.compare_at.ensures)) c.push_operand.ensures
+
 pub push_compared-loop-index-preserved : goal.push_compared-loop-index-preserved
 push_compared-loop-index-preserved t c =
     let xs = c.args.others.now in
@@ -110,14 +119,24 @@ push_compared-loop-index-preserved t c =
     let op : (CompareOp × Expr) → Operator = λ x. operator.Compare x.0 in
     let w : (CompareOp × Expr) → Written = λ x. shown c.args.spaces.now c.args.names.now x.1 in
     let flag = c.before_next-next.result in
-    moved _ _ _ (mark (operator_kind (op x)) ∷ operand c.args.least flag (w x)) _ (others_from op w c.args.least c.args.before (drop (i + 1) xs)) c.in_ok-push_further.ensures
-    (further_next op w c.args.least c.args.before xs i x flag c.loop-index-test.true c.index-others-index.is (c.before_next-next.ensures ∙ ap (λ o. before_next o c.args.before) c.compare_at.ensures)) c.loop-index.invariant
+    let least = c.compares_rank-least.result + 1 in
+    moved _ _ _ (mark (operator_kind (op x)) ∷ operand least flag (w x)) _ (others_from op w least c.args.before (drop (i + 1) xs)) c.in_ok-push_further.ensures
+    (further_next op w least c.args.before xs i x flag c.loop-index-test.true c.index-others-index.is (c.before_next-next.ensures ∙ ap (λ o. before_next o c.args.before) c.compare_at.ensures)) c.loop-index.invariant
 
 pub push_compared-returns : goal.push_compared-returns
 push_compared-returns t c =
+    let xs = c.args.others.now in
     let op : (CompareOp × Expr) → Operator = λ x. operator.Compare x.0 in
     let w : (CompareOp × Expr) → Written = λ x. shown c.args.spaces.now c.args.names.now x.1 in
-    all_moved _ _ _ (ap (others_from op w c.args.least c.args.before) (drop_all c.loop-index.index c.args.others.now c.loop-index-test.false)) c.loop-index.invariant
+    all_moved _ _ _ (ap (others_from op w (c.compares_rank-least.result + 1) c.args.before) (drop_all c.loop-index.index xs c.loop-index-test.false)) c.loop-index.invariant
+    ∙ ap (λ n. string_bytes c.args.out.now ++ spelled (others_from op w (n + 1) c.args.before xs)) c.compares_rank-least.ensures
+
+pub push_first_computed-returns : goal.push_first_computed-returns
+push_first_computed-returns t c =
+    let xs = c.args.others.now in
+    let first = shown c.args.spaces.now c.args.names.now c.args.first.now in
+    renamed _ _ _ _ _ (ap (λ n. operand (n + 1) c.before_next-next.result first) c.ariths_rank-chain_rank.ensures
+    ∙ ap (λ flag. operand (ariths_rank xs + 1) flag first) (c.before_next-next.ensures ∙ ap (λ o. before_next o c.args.before) c.arith_at.ensures)) c.push_operand.ensures
 
 pub push_computed-loop-index-preserved : goal.push_computed-loop-index-preserved
 push_computed-loop-index-preserved t c =
@@ -127,14 +146,17 @@ push_computed-loop-index-preserved t c =
     let op : (ArithOp × Expr) → Operator = λ x. operator.Arith x.0 in
     let w : (ArithOp × Expr) → Written = λ x. shown c.args.spaces.now c.args.names.now x.1 in
     let flag = c.before_next-next.result in
-    moved _ _ _ (mark (operator_kind (op x)) ∷ operand c.args.least flag (w x)) _ (others_from op w c.args.least c.args.before (drop (i + 1) xs)) c.in_ok-push_further.ensures
-    (further_next op w c.args.least c.args.before xs i x flag c.loop-index-test.true c.index-others-index.is (c.before_next-next.ensures ∙ ap (λ o. before_next o c.args.before) c.arith_at.ensures)) c.loop-index.invariant
+    let least = c.ariths_rank-least.result + 1 in
+    moved _ _ _ (mark (operator_kind (op x)) ∷ operand least flag (w x)) _ (others_from op w least c.args.before (drop (i + 1) xs)) c.in_ok-push_further.ensures
+    (further_next op w least c.args.before xs i x flag c.loop-index-test.true c.index-others-index.is (c.before_next-next.ensures ∙ ap (λ o. before_next o c.args.before) c.arith_at.ensures)) c.loop-index.invariant
 
 pub push_computed-returns : goal.push_computed-returns
 push_computed-returns t c =
+    let xs = c.args.others.now in
     let op : (ArithOp × Expr) → Operator = λ x. operator.Arith x.0 in
     let w : (ArithOp × Expr) → Written = λ x. shown c.args.spaces.now c.args.names.now x.1 in
-    all_moved _ _ _ (ap (others_from op w c.args.least c.args.before) (drop_all c.loop-index.index c.args.others.now c.loop-index-test.false)) c.loop-index.invariant
+    all_moved _ _ _ (ap (others_from op w (c.ariths_rank-least.result + 1) c.args.before) (drop_all c.loop-index.index xs c.loop-index-test.false)) c.loop-index.invariant
+    ∙ ap (λ n. string_bytes c.args.out.now ++ spelled (others_from op w (n + 1) c.args.before xs)) c.ariths_rank-least.ensures
 
 -- Steps
 
@@ -153,6 +175,26 @@ push_step-returns t c =
     (both _ _ _ _ (axis_words s.axis) _ c.in_ok-push_axis.ensures (both _ _ _ _ (test_words c.args.spaces.now c.args.names.now s.test) _ c.in_ok-push_test.ensures
     (renamed _ _ _ _ _ (ap (λ (ys : List Expr). predicate_words (map sh ys)) c.as_slice-2.ensures) c.push_predicates.ensures)))
 
+-- Paths
+
+pub push_start-returns-in-Context : goal.push_start-returns-in-Context
+push_start-returns-in-Context t c = λ steps last.
+    let begun = ap (λ (p : PathStart). shown_start c.args.spaces.now c.args.names.now p c.args.before steps) c.in-Context.is ∙ ap (λ (f : Bool → List WrittenStep → List Word). f c.args.before steps) (shown-Context c.args.spaces.now c.args.names.now) in
+    ap (λ (ws : List Word). string_bytes c.args.out.now ++ spelled ws) (sym begun)
+
+pub push_start-returns-in_ok-push_root-in-Root : goal.push_start-returns-in_ok-push_root-in-Root
+push_start-returns-in_ok-push_root-in-Root t c = λ steps last.
+    let begun = ap (λ (p : PathStart). shown_start c.args.spaces.now c.args.names.now p c.args.before steps) c.in-Root.is ∙ ap (λ (f : Bool → List WrittenStep → List Word). f c.args.before steps) (shown-Root c.args.spaces.now c.args.names.now) in
+    moved _ _ _ _ _ (steps_words (Some kind.Slash) steps) c.in_ok-push_root-in-Root.ensures (root_then c.args.before c.args.alone steps last) (ap (λ (ws : List Word). string_bytes c.args.out.now ++ spelled ws) (sym begun))
+
+pub push_start-returns-in_ok-push_operand-in-From : goal.push_start-returns-in_ok-push_operand-in-From
+push_start-returns-in_ok-push_operand-in-From t c = λ steps last.
+    let sh = shown c.args.spaces.now c.args.names.now in
+    let behind = steps_words (Some kind.Slash) steps in
+    let begun = ap (λ (p : PathStart). shown_start c.args.spaces.now c.args.names.now p c.args.before steps) c.in-From.is ∙ ap (λ (f : Bool → List WrittenStep → List Word). f c.args.before steps) (shown-From c.args.spaces.now c.args.names.now c.in-From.inner) in
+    moved _ _ _ (operand 10 false (sh c.get.result.now)) (operand 10 false (sh c.in-From.inner) ++ behind) behind c.in_ok-push_operand-in-From.ensures (ap (λ (e : Expr). operand 10 false (sh e) ++ behind) (sym c.get.ensures))
+    (ap (λ (ws : List Word). string_bytes c.args.out.now ++ spelled ws) (sym begun))
+
 -- Expressions
 
 pub push_expr-returns-in-Or : goal.push_expr-returns-in-Or
@@ -167,8 +209,8 @@ pub push_expr-returns-in-Union : goal.push_expr-returns-in-Union
 push_expr-returns-in-Union t c =
     renamed _ _ _ _ _ (worded c.args.spaces.now c.args.names.now c.args.before _ _ _ c.in-Union.is (shown-Union c.args.spaces.now c.args.names.now c.in-Union.operands)) c.push_joined-in-Union.ensures
 
-pub push_expr-returns-in_ok-push_operand-in-Compare : goal.push_expr-returns-in_ok-push_operand-in-Compare
-push_expr-returns-in_ok-push_operand-in-Compare t c =
+pub push_expr-returns-in_ok-push_first_compared-in-Compare : goal.push_expr-returns-in_ok-push_first_compared-in-Compare
+push_expr-returns-in_ok-push_first_compared-in-Compare t c =
     let sh = shown c.args.spaces.now c.args.names.now in
     let b = c.args.before in
     let others = c.in-Compare.others in
@@ -176,17 +218,15 @@ push_expr-returns-in_ok-push_operand-in-Compare t c =
     let op : (CompareOp × Expr) → Operator = λ x. operator.Compare x.0 in
     let w : (CompareOp × Expr) → Written = λ x. sh x.1 in
     let words : List (CompareOp × Expr) → List (Operator × Written) = map (λ (x : CompareOp × Expr). (operator.Compare x.0, sh x.1)) in
-    renamed _ _ _ _ _ (ap (λ n. joined (n + 1) b (sh c.get.result.now) (words read)) c.compares_rank-least.ensures
-    ∙ ap (λ (e : Expr). joined (compares_rank read + 1) b (sh e) (words read)) c.get.ensures
+    renamed _ _ _ _ _ (ap (λ (e : Expr). joined (compares_rank read + 1) b (sh e) (words read)) c.get.ensures
     ∙ ap (λ (xs : List (CompareOp × Expr)). joined (compares_rank xs + 1) b (sh c.in-Compare.first) (words xs)) c.as_slice-others.ensures
     ∙ ap (λ n. joined (n + 1) b (sh c.in-Compare.first) (words others)) (sym (compares_rank-map sh others))
     ∙ ap (joined (compares_rank (map (λ (x : CompareOp × Expr). (x.0, sh x.1)) others) + 1) b (sh c.in-Compare.first)) (sym (map_map (λ (x : CompareOp × Expr). (x.0, sh x.1)) (λ (x : CompareOp × Written). (operator.Compare x.0, x.1)) others))
     ∙ worded c.args.spaces.now c.args.names.now b _ _ _ c.in-Compare.is (shown-Compare c.args.spaces.now c.args.names.now c.in-Compare.first others))
-    (chain_ends op w (c.compares_rank-least.result + 1) b _ _ _ _ (sh c.get.result.now) read c.before_next-next.result c.in_ok-push_operand-in-Compare.ensures
-    (c.before_next-next.ensures ∙ ap (λ o. before_next o b) c.compare_at.ensures) c.push_compared.ensures)
+    (chain_ends op w (compares_rank read + 1) b _ _ _ _ (sh c.get.result.now) read (before_next (option_map op (slice_get read 0)) b) c.in_ok-push_first_compared-in-Compare.ensures refl c.push_compared.ensures)
 
-pub push_expr-returns-in_ok-push_operand-in-Arith : goal.push_expr-returns-in_ok-push_operand-in-Arith
-push_expr-returns-in_ok-push_operand-in-Arith t c =
+pub push_expr-returns-in_ok-push_first_computed-in-Arith : goal.push_expr-returns-in_ok-push_first_computed-in-Arith
+push_expr-returns-in_ok-push_first_computed-in-Arith t c =
     let sh = shown c.args.spaces.now c.args.names.now in
     let b = c.args.before in
     let others = c.in-Arith.others in
@@ -194,14 +234,12 @@ push_expr-returns-in_ok-push_operand-in-Arith t c =
     let op : (ArithOp × Expr) → Operator = λ x. operator.Arith x.0 in
     let w : (ArithOp × Expr) → Written = λ x. sh x.1 in
     let words : List (ArithOp × Expr) → List (Operator × Written) = map (λ (x : ArithOp × Expr). (operator.Arith x.0, sh x.1)) in
-    renamed _ _ _ _ _ (ap (λ n. joined (n + 1) b (sh c.get-in-Arith.result.now) (words read)) c.ariths_rank-least.ensures
-    ∙ ap (λ (e : Expr). joined (ariths_rank read + 1) b (sh e) (words read)) c.get-in-Arith.ensures
+    renamed _ _ _ _ _ (ap (λ (e : Expr). joined (ariths_rank read + 1) b (sh e) (words read)) c.get-in-Arith.ensures
     ∙ ap (λ (xs : List (ArithOp × Expr)). joined (ariths_rank xs + 1) b (sh c.in-Arith.first) (words xs)) c.as_slice-others-in-Arith.ensures
     ∙ ap (λ n. joined (n + 1) b (sh c.in-Arith.first) (words others)) (sym (ariths_rank-map sh others))
     ∙ ap (joined (ariths_rank (map (λ (x : ArithOp × Expr). (x.0, sh x.1)) others) + 1) b (sh c.in-Arith.first)) (sym (map_map (λ (x : ArithOp × Expr). (x.0, sh x.1)) (λ (x : ArithOp × Written). (operator.Arith x.0, x.1)) others))
     ∙ worded c.args.spaces.now c.args.names.now b _ _ _ c.in-Arith.is (shown-Arith c.args.spaces.now c.args.names.now c.in-Arith.first others))
-    (chain_ends op w (c.ariths_rank-least.result + 1) b _ _ _ _ (sh c.get-in-Arith.result.now) read c.before_next-next-in-Arith.result c.in_ok-push_operand-in-Arith.ensures
-    (c.before_next-next-in-Arith.ensures ∙ ap (λ o. before_next o b) c.arith_at.ensures) c.push_computed.ensures)
+    (chain_ends op w (ariths_rank read + 1) b _ _ _ _ (sh c.get-in-Arith.result.now) read (before_next (option_map op (slice_get read 0)) b) c.in_ok-push_first_computed-in-Arith.ensures refl c.push_computed.ensures)
 
 pub push_expr-returns-in-Negate : goal.push_expr-returns-in-Negate
 push_expr-returns-in-Negate t c =
@@ -221,42 +259,15 @@ push_expr-returns-in-Variable t c = renamed _ _ _ _ _ (worded c.args.spaces.now 
 
 pub push_expr-returns-in-Call : goal.push_expr-returns-in-Call
 push_expr-returns-in-Call t c =
-    let sh = shown c.args.spaces.now c.args.names.now in
-    renamed _ _ _ _ _ (ap (λ (es : List Expr). let w : Word = (kind.Callee, function_text c.in-Call.function) in w ∷ (mark kind.Open ∷ (argument_words (map sh es) ++ mark kind.Close ∷ []))) c.as_slice-in-Call.ensures
-    ∙ worded c.args.spaces.now c.args.names.now c.args.before _ _ _ c.in-Call.is (shown-Call c.args.spaces.now c.args.names.now c.in-Call.function c.in-Call.arguments)) c.push_call.ensures
+    renamed _ _ _ _ _ (worded c.args.spaces.now c.args.names.now c.args.before _ _ _ c.in-Call.is (shown-Call c.args.spaces.now c.args.names.now c.in-Call.function c.in-Call.arguments)) c.push_call.ensures
 
-pub push_expr-returns-in-Context : goal.push_expr-returns-in-Context
-push_expr-returns-in-Context t c =
+pub push_expr-returns-in_ok-behind-in-Path : goal.push_expr-returns-in_ok-behind-in-Path
+push_expr-returns-in_ok-behind-in-Path t c =
+    let sh = shown_step c.args.spaces.now c.args.names.now in
     let steps = c.in-Path.steps in
-    let ys = map (shown_step c.args.spaces.now c.args.names.now) steps in
-    let b = c.args.before in
-    let begun = ap (λ (p : PathStart). shown_start c.args.spaces.now c.args.names.now p b ys) c.in-Context.is ∙ ap (λ (f : Bool → List WrittenStep → List Word). f b ys) (shown-Context c.args.spaces.now c.args.names.now) in
-    renamed _ _ _ _ _ (ap (λ (zs : List Step). steps_words None (map (shown_step c.args.spaces.now c.args.names.now) zs)) c.as_slice.ensures
-    ∙ sym begun
-    ∙ worded c.args.spaces.now c.args.names.now b _ _ _ c.in-Path.is (shown-Path c.args.spaces.now c.args.names.now c.in-Path.start steps)) c.push_steps.ensures
-
-pub push_expr-returns-in-Root : goal.push_expr-returns-in-Root
-push_expr-returns-in-Root t c =
-    let steps = c.in-Path.steps in
-    let ys = map (shown_step c.args.spaces.now c.args.names.now) steps in
-    let b = c.args.before in
-    let begun = ap (λ (p : PathStart). shown_start c.args.spaces.now c.args.names.now p b ys) c.in-Root.is ∙ ap (λ (f : Bool → List WrittenStep → List Word). f b ys) (shown-Root c.args.spaces.now c.args.names.now) in
-    renamed _ _ _ _ _ (ap (λ (zs : List Step). absolute_words b (map (shown_step c.args.spaces.now c.args.names.now) zs)) c.as_slice-in-Root.ensures
-    ∙ sym begun
-    ∙ worded c.args.spaces.now c.args.names.now b _ _ _ c.in-Path.is (shown-Path c.args.spaces.now c.args.names.now c.in-Path.start steps)) c.push_absolute.ensures
-
-pub push_expr-returns-in_ok-push_operand-in-From : goal.push_expr-returns-in_ok-push_operand-in-From
-push_expr-returns-in_ok-push_operand-in-From t c =
-    let steps = c.in-Path.steps in
-    let inner = c.in-From.inner in
-    let ys = map (shown_step c.args.spaces.now c.args.names.now) steps in
-    let b = c.args.before in
-    let begun = ap (λ (p : PathStart). shown_start c.args.spaces.now c.args.names.now p b ys) c.in-From.is ∙ ap (λ (f : Bool → List WrittenStep → List Word). f b ys) (shown-From c.args.spaces.now c.args.names.now inner) in
-    renamed _ _ _ _ _ (ap (λ (zs : List Step). operand 10 false (shown c.args.spaces.now c.args.names.now c.get-in-From.result.now) ++ steps_words (Some kind.Slash) (map (shown_step c.args.spaces.now c.args.names.now) zs)) c.as_slice-in-From.ensures
-    ∙ ap (λ (e : Expr). operand 10 false (shown c.args.spaces.now c.args.names.now e) ++ steps_words (Some kind.Slash) ys) c.get-in-From.ensures
-    ∙ sym begun
-    ∙ worded c.args.spaces.now c.args.names.now b _ _ _ c.in-Path.is (shown-Path c.args.spaces.now c.args.names.now c.in-Path.start steps))
-    (both _ _ _ _ (operand 10 false (shown c.args.spaces.now c.args.names.now c.get-in-From.result.now)) _ c.in_ok-push_operand-in-From.ensures c.push_steps-in-From.ensures)
+    let empty = is_empty-map sh steps ∙ empty_by_test steps c.is_empty.result c.is_empty.ensures in
+    renamed _ _ _ _ _ (worded c.args.spaces.now c.args.names.now c.args.before _ _ _ c.in-Path.is (shown-Path c.args.spaces.now c.args.names.now c.in-Path.start steps))
+    (follows _ _ _ _ _ _ (c.in_ok-behind-in-Path.ensures (map sh steps) empty) (renamed _ _ _ _ _ (ap (λ (zs : List Step). steps_words c.in_ok-behind-in-Path.behind (map sh zs)) c.as_slice.ensures) c.push_steps.ensures))
 
 pub push_expr-returns-in_ok-push_operand-in-Filter : goal.push_expr-returns-in_ok-push_operand-in-Filter
 push_expr-returns-in_ok-push_operand-in-Filter t c =
