@@ -6,9 +6,9 @@ ghost use Rattle.serna_kinds.specs.Tape.{is_cell};
 ghost use Rattle.frozen_tree.specs.Nodes.{no_state, next_state};
 ghost use Rattle.frozen_tree.specs.Frozen.{state_at, cells_of, stamps_of};
 
-use crate::CellChange;
 use crate::node::{CellState, NodeCells, copied};
 use crate::shelf::{Shelf, Shelved};
+use crate::{CellChange, KeptValue};
 use serna_kinds::{Cell, CellValue, NoMemory, NodeName, SourceView};
 use std::alloc::Global;
 use std::marker::Model;
@@ -89,7 +89,8 @@ fn put(
 }
 
 impl Frozen {
-    ghost use Rattle.frozen_tree.specs.Maps.{nothing, no_stamps, changed_by, stamped_by, stamped_if};
+    ghost use Rattle.std.specs.Prelude.{option_map};
+    ghost use Rattle.frozen_tree.specs.Maps.{nothing, no_stamps, changed_by, stamped_by, stamped_if, kept_content};
 
     /// The map without cells, with all stamps 0. Takes no memory.
     pub fn new() -> Frozen
@@ -169,6 +170,13 @@ impl Frozen {
         let top = self.top.as_ref()?;
         let node = top.get(place.branch)?.get(place.leaf)?.get(place.node)?;
         Some(node.state(cell.facet))
+    }
+
+    /// The value of a cell as the map keeps it, so that it can be shared further; None where there is none. Takes no memory.
+    pub fn kept(&self, cell: Cell) -> Option<&KeptValue>
+        ensures { option_map kept_content (option_copied result) ≡ cells_of self.now cell }
+    {
+        self.state(cell)?.value.as_ref()
     }
 
     /// The revision of the last change that named the cell, 0 where there was none. Takes no memory.

@@ -1,6 +1,6 @@
 //! Values of cells that own what they hold, and changes of cells.
 
-ghost use Rattle.std.specs.Prelude.{◌≡◌, IfOk};
+ghost use Rattle.std.specs.Prelude.{◌≡◌, ◌↔◌, IsTrue, IfOk};
 ghost use Rattle.serna_kinds.specs.Content.{content_of};
 ghost use Rattle.frozen_tree.specs.Maps.{kept_content};
 
@@ -75,6 +75,44 @@ impl KeptValue {
         }
     }
 
+    /// Whether the value says the same as another one. It compares what both hold, up to the first difference. Takes no memory.
+    pub fn says_same(&self, other: &KeptValue) -> bool
+        ensures { IsTrue result ↔ (kept_content self.now ≡ kept_content other.now) }
+    {
+        match self {
+            KeptValue::Label(kind, name) => {
+                let KeptValue::Label(other_kind, other_name) = other else {
+                    return false;
+                };
+                kind == other_kind && name == other_name
+            }
+            KeptValue::Kids(kids) => {
+                let KeptValue::Kids(others) = other else {
+                    return false;
+                };
+                are_same_numbers(kids.as_slice(), others.as_slice())
+            }
+            KeptValue::Up(parent) => {
+                let KeptValue::Up(other_parent) = other else {
+                    return false;
+                };
+                parent == other_parent
+            }
+            KeptValue::Attrs(pairs) => {
+                let KeptValue::Attrs(others) = other else {
+                    return false;
+                };
+                are_same_pairs(pairs.as_slice(), others.as_slice())
+            }
+            KeptValue::Text(text) => {
+                let KeptValue::Text(other_text) = other else {
+                    return false;
+                };
+                is_same_text(text, other_text)
+            }
+        }
+    }
+
     /// The same value, which shares its lists and texts. Takes no memory; `Err` comes only where 2^63 copies are there.
     pub fn copy(&self) -> Result<KeptValue, NoMemory>
         ensures { IfOk result (λ value. value ≡ self.now) }
@@ -96,6 +134,50 @@ impl KeptValue {
             }
         }
     }
+}
+
+/// Whether two lists of numbers are the same.
+fn are_same_numbers(one: &[NodeName], other: &[NodeName]) -> bool
+    ensures { IsTrue result ↔ (one.now ≡ other.now) }
+{
+    if one.len() != other.len() {
+        return false;
+    }
+    'numbers: for (place, number) in one.iter().enumerate() {
+        if number.0 != other[place].0 {
+            return false;
+        }
+    }
+    true
+}
+
+/// Whether two texts are the same.
+fn is_same_text(one: &Chars, other: &Chars) -> bool
+    ensures { IsTrue result ↔ (one.now ≡ other.now) }
+{
+    one.as_text() == other.as_text()
+}
+
+/// Whether two attributes are the same.
+fn is_same_pair(one: &AttrPair, other: &AttrPair) -> bool
+    ensures { IsTrue result ↔ (one.now ≡ other.now) }
+{
+    one.name.0 == other.name.0 && is_same_text(&one.value, &other.value)
+}
+
+/// Whether two lists of attributes are the same.
+fn are_same_pairs(one: &[AttrPair], other: &[AttrPair]) -> bool
+    ensures { IsTrue result ↔ (one.now ≡ other.now) }
+{
+    if one.len() != other.len() {
+        return false;
+    }
+    'pairs: for (place, pair) in one.iter().enumerate() {
+        if !is_same_pair(pair, &other[place]) {
+            return false;
+        }
+    }
+    true
 }
 
 /// A change of one cell: its new value, or None where the cell is taken out.
