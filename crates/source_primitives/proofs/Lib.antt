@@ -1,0 +1,16 @@
+pub mod Around
+pub mod Leaves
+pub mod ProperKept
+pub mod Undone
+pub mod Inside
+pub mod Subtrees
+pub mod ConsistentKept
+pub mod MayUndo
+pub mod UndoneAll
+pub mod Typed
+pub mod PutBack
+pub mod TextPlaces
+pub mod ShortTexts
+pub mod PlacesKept
+pub mod Neighbours
+pub mod StillThere
