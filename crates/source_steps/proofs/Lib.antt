@@ -1,0 +1,14 @@
+pub mod CellsAfter
+pub mod CellsPut
+pub mod TextBytes
+pub mod NoText
+pub mod Stepped
+pub mod ItemsRead
+pub mod NodesPut
+pub mod ItemNumbers
+pub mod PairPlaces
+pub mod ChildTaken
+pub mod ChildStepped
+pub mod WholePut
+pub mod Applying
+pub mod Differing
