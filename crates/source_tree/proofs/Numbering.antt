@@ -1,24 +1,13 @@
 -- What stands under which number, where a tree is numbered in document order.
 use Rattle.std.proofs.Common.{◌≡◌, ℕ, ◌+◌, ◌<◌, ◌≤◌, ◌==◌, ◌⊎◌, inl, inr, List, ◌∷◌, ◌++◌, map, length, Option, Some, None, slice_get, if◌then◌else◌, refl, ap, ◌∙◌, arith, length-append}
 use Rattle.std.proofs.lemmas.Bool.{cases_lt, cases_eq}
-use Rattle.std.proofs.lemmas.List.{get_or_at}
-use Rattle.std.proofs.lemmas.Option.{slice_get-get_or}
 use Rattle.tree_lines.specs.Given.{Given, count_of}
 use Rattle.tree_lines.specs.Given as given
-use Rattle.source_model.specs.Source.{numbers}
-use Rattle.source_model.specs.Cells.{named, or_else, spot_in}
+use Rattle.source_model.specs.Cells.{or_else, spot_in}
 use Rattle.source_model.specs.Proper.{uses}
 use Rattle.source_tree.specs.Begun.{numbered}
-use Rattle.source_tree.specs.Arena.{heads}
-use Rattle.source_tree.proofs.Around.{count_same, count_other}
-pub use Rattle.source_tree.proofs.Around.{at_same, at_other}
-
--- the numbers of neighbours
-pub numbers-numbered : (k : ℕ) (g : Given) → map named (numbers (numbered k g)) ≡ heads k g
-numbers-numbered k given.end = refl
-numbers-numbered k (given.text t rest) = ap (λ ns. named k ∷ ns) (numbers-numbered (k + 1) rest)
-numbers-numbered k (given.comment t rest) = ap (λ ns. named k ∷ ns) (numbers-numbered (k + 1) rest)
-numbers-numbered k (given.element name attributes line content rest) = ap (λ ns. named k ∷ ns) (numbers-numbered (k + 1 + count_of content) rest)
+use Rattle.source_primitives.proofs.Around.{count_same, count_other}
+pub use Rattle.source_primitives.proofs.Around.{at_same, at_other}
 
 -- a number before the first one, or past the last
 abbrev pub IsOutside : ℕ → ℕ → Given → Type 0
@@ -121,7 +110,3 @@ uses-within (given.element name attributes line content rest) n k from to = elim
     | inr past ↦ let h = uses-within rest n (k + 1 + count_of content) past (omega (arith, to)) in omega (arith, h)
   ]
 ]
-
-pub slice_get_at : {A : Type 0} (p : List A) (y : A) (ys : List A) (n : ℕ) → length p ≡ n → slice_get (p ++ y ∷ ys) n ≡ Some y
-slice_get_at p y ys n e =
-    slice_get-get_or (p ++ y ∷ ys) n y (omega (arith, length-append p (y ∷ ys))) ∙ ap Some (get_or_at p y ys y n e)

@@ -13,7 +13,7 @@ use Rattle.tree_lines.proofs.MeantTexts.{IsText-append}
 use Rattle.source_model.specs.Source.{Body, Root, Element, Text, Comment, Forest, none, node}
 use Rattle.source_model.specs.Changes.{inserted_at}
 use Rattle.source_tree.specs.Unnumbered.{unnumbered}
-use Rattle.source_tree.proofs.Around.{Around, here, below, beside, plug}
+use Rattle.source_primitives.proofs.Around.{Around, here, below, beside, plug}
 
 -- the parts of a text are texts
 scalars-text : (t : List ℕ) → IsText t → scalars t ≡ true

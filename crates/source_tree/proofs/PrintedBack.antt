@@ -13,21 +13,21 @@ use Rattle.source_model.specs.Source.{Body, Root, Element, Text, Comment, Forest
 use Rattle.source_model.specs.Cells.{Spot}
 use Rattle.source_model.specs.Changes.{with_characters, with_text, with_kids, inserted_at}
 use Rattle.source_model.specs.Proper.{IsProper}
-use Rattle.source_tree.specs.declared.prim.Primitive.{Primitive}
-use Rattle.source_tree.specs.declared.prim.Primitive.TheVariants.{InsertText, RemoveText, InsertChild, RemoveChild, SetAttr, RemoveAttr, PutAttr}
-use Rattle.source_tree.specs.declared.prim.SubItem.{SubItem}
-use Rattle.source_tree.specs.declared.prim.SubItem.TheVariants as item
-use Rattle.source_tree.specs.Prims.{applied, MayType, KeepsProper, HasRoom, HasPlace, IsNewLeaf}
+use Rattle.source_primitives.specs.declared.primitive.Primitive.{Primitive}
+use Rattle.source_primitives.specs.declared.primitive.Primitive.TheVariants.{InsertText, RemoveText, InsertChild, RemoveChild, SetAttr, RemoveAttr, PutAttr}
+use Rattle.source_primitives.specs.declared.primitive.SubItem.{SubItem}
+use Rattle.source_primitives.specs.declared.primitive.SubItem.TheVariants as item
+use Rattle.source_primitives.specs.Primitives.{applied, MayType, KeepsProper, HasRoom, HasPlace, IsNewLeaf}
 use Rattle.source_tree.specs.Begun.{begun}
 use Rattle.source_tree.specs.Unnumbered.{unnumbered, below_document, document_of}
 use Rattle.source_tree.specs.Printing.{IsPrintable, PutsWritable, PrintsBack}
-use Rattle.source_tree.proofs.Around.{Around, plug, with_body-root, with_kids-root}
-use Rattle.source_tree.proofs.Inside.{Below, spot_text, element_body}
-use Rattle.source_tree.proofs.ProperKept.{below_top, some_items, proper_kept}
+use Rattle.source_primitives.proofs.Around.{Around, plug, with_body-root, with_kids-root}
+use Rattle.source_primitives.proofs.Inside.{Below, spot_text, element_body}
+use Rattle.source_primitives.proofs.ProperKept.{below_top, some_items, proper_kept}
 use Rattle.source_tree.proofs.WholeDocument.{whole_document}
 use Rattle.source_tree.proofs.Printable.{IsText-inserted, writable-plug, IsWritableLeaf, writable-inserted_at}
 use Rattle.source_tree.proofs.TextWritten.{document_begun}
-use Rattle.source_tree.proofs.Planted.{IsProper-begun}
+use Rattle.source_tree.proofs.BegunSource.{IsProper-begun}
 use Rattle.tree_lines.proofs.Limits.{document_whole}
 use Rattle.tree_lines.proofs.Said.{document_named}
 use Rattle.tree_lines.proofs.Writability.{document_writable}

@@ -11,9 +11,9 @@ use Rattle.tree_lines.specs.Given.{spaces_of, given_of}
 use Rattle.source_model.specs.Source.{Source, Element, none}
 use Rattle.source_model.specs.Changes.{text_at}
 use Rattle.source_tree.specs.Begun.{begun}
-use Rattle.source_tree.specs.declared.prim.SubItem.{SubItem}
-use Rattle.source_tree.specs.declared.prim.SubItem.TheVariants as item
-use Rattle.source_tree.specs.Prims.{HasPlace, HasRoom, IsNewLeaf}
+use Rattle.source_primitives.specs.declared.primitive.SubItem.{SubItem}
+use Rattle.source_primitives.specs.declared.primitive.SubItem.TheVariants as item
+use Rattle.source_primitives.specs.Primitives.{HasPlace, HasRoom, IsNewLeaf}
 
 -- one letter is ASCII
 pub one_ascii : (c : ℕ) → c < 128 → (i : ℕ) → slice_index (c ∷ []) i < 128

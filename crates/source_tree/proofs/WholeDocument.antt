@@ -7,7 +7,7 @@ use Rattle.tree_lines.specs.Given as given
 use Rattle.source_model.specs.Source.{Body, Root, Element, Text, Comment, Forest, none, node, Source}
 use Rattle.source_model.specs.Proper.{uses, depth_of, BeginsNoText, AreNodes, AreComments, IsTop, IsProper}
 use Rattle.source_tree.specs.Unnumbered.{unnumbered, below_document, document_of}
-use Rattle.source_tree.proofs.Around.{count_same}
+use Rattle.source_primitives.proofs.Around.{count_same}
 
 comments_unnumbered : (f : Forest) → AreComments f → given.AreComments (unnumbered f)
 comments_unnumbered none are = tt

@@ -1,11 +1,6 @@
-pub mod Arena
 pub mod Begun
-pub mod Changing
-pub mod Growing
-pub mod Prims
+pub mod Kept
 pub mod Seen
-pub mod Places
-pub mod Neighbours
 pub mod Printing
 pub mod Unnumbered
 pub mod Lines

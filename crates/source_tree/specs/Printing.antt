@@ -10,10 +10,10 @@ use Rattle.tree_lines.specs.Canonical.{document_lines}
 use Rattle.tree_lines.specs.Writable.{IsText, IsElementName, IsPair, IsWritable}
 use Rattle.source_model.specs.Source.{Source}
 use Rattle.source_model.specs.Attributes.{pair_of}
-use Rattle.source_tree.specs.declared.prim.Primitive.{Primitive}
-use Rattle.source_tree.specs.declared.prim.Primitive.TheVariants.{InsertText, RemoveText, InsertChild, RemoveChild, SetAttr, RemoveAttr, PutAttr}
-use Rattle.source_tree.specs.declared.prim.SubItem.{SubItem}
-use Rattle.source_tree.specs.declared.prim.SubItem.TheVariants as item
+use Rattle.source_primitives.specs.declared.primitive.Primitive.{Primitive}
+use Rattle.source_primitives.specs.declared.primitive.Primitive.TheVariants.{InsertText, RemoveText, InsertChild, RemoveChild, SetAttr, RemoveAttr, PutAttr}
+use Rattle.source_primitives.specs.declared.primitive.SubItem.{SubItem}
+use Rattle.source_primitives.specs.declared.primitive.SubItem.TheVariants as item
 use Rattle.source_tree.specs.Begun.{begun}
 use Rattle.source_tree.specs.Unnumbered.{document_of}
 

@@ -1,11 +1,13 @@
 //! What no clause says: that calls succeed.
 ghost use Rattle.std.specs.Prelude.{◌≡◌, IfOk, [], ◌∷◌, map, Some, codes};
 ghost use Rattle.source_model.specs.Changes.{text_at};
-ghost use Rattle.source_tree.specs.Prims.{HasPlace};
+ghost use Rattle.source_primitives.specs.Primitives.{HasPlace};
 
 use super::*;
 use serna_kinds::{Cell, CellValue, Chars, Facet, Items, NameTable, NodeName, SourceView};
+use source_primitives::{Primitive, SubItem};
 use std::alloc::{AllocError, Global};
+use std::slice;
 use std::test::Fail;
 use tree_lines::{Line, read_tree};
 
@@ -71,8 +73,8 @@ fn piece(alloc: Global) -> Result<Chars, AllocError>
 fn puts_characters_in(rt: HostRuntime) -> Result<(), Fail> {
     let mut source = new_source(rt.alloc())?;
     let characters = piece(rt.alloc())?;
-    let prim = Primitive::InsertText(NodeName(3), 1, characters);
-    let undoing = source.apply(rt.alloc(), &prim)?;
+    let primitive = Primitive::InsertText(NodeName(3), 1, characters);
+    let undoing = source.apply(rt.alloc(), &primitive)?;
     assert!(rt; matches!(undoing, Primitive::RemoveText(NodeName(3), 1, 2)));
     let cell = Cell {
         node: NodeName(3),
@@ -85,16 +87,17 @@ fn puts_characters_in(rt: HostRuntime) -> Result<(), Fail> {
 #[test]
 fn adds_a_comment(rt: HostRuntime) -> Result<(), Fail> {
     let mut source = new_source(rt.alloc())?;
-    let comment = SubItem::Comment(NodeName(6), piece(rt.alloc())?);
-    let mut items = Items::new(rt.alloc());
-    items.push(comment)?;
-    let prim = Primitive::InsertChild(NodeName(4), 0, items);
-    let undoing = source.apply(rt.alloc(), &prim)?;
-    assert!(rt; matches!(undoing, Primitive::RemoveChild(NodeName(4), 0)));
     let cell = Cell {
         node: NodeName(4),
         facet: Facet::Kids,
     };
+    assert!(rt; source.view().stamp(cell) == 0);
+    let comment = SubItem::Comment(NodeName(6), piece(rt.alloc())?);
+    let mut items = Items::new(rt.alloc());
+    items.push(comment)?;
+    let primitive = Primitive::InsertChild(NodeName(4), 0, items);
+    let undoing = source.apply(rt.alloc(), &primitive)?;
+    assert!(rt; matches!(undoing, Primitive::RemoveChild(NodeName(4), 0)));
     let kids = match source.read(cell) {
         Some(CellValue::Kids(kids)) => kids,
         _ => &[],
@@ -103,12 +106,29 @@ fn adds_a_comment(rt: HostRuntime) -> Result<(), Fail> {
     Ok(())
 }
 
+// What is staged does not show until it is taken on.
+#[test]
+fn stages_and_takes_on(rt: HostRuntime) -> Result<(), Fail> {
+    let mut source = new_source(rt.alloc())?;
+    let cell = Cell {
+        node: NodeName(3),
+        facet: Facet::Text,
+    };
+    let primitive = Primitive::InsertText(NodeName(3), 1, piece(rt.alloc())?);
+    let staged = source.after(rt.alloc(), slice::from_ref(&primitive))?;
+    assert!(rt; staged.changed().len() == 1 && staged.changed()[0] == cell);
+    assert!(rt; source.view().stamp(cell) == 0 && staged.view().stamp(cell) == 1);
+    source.take_on(staged);
+    assert!(rt; source.view().stamp(cell) == 1 && source.taken() == 1);
+    Ok(())
+}
+
 #[test]
 fn writes_its_lines(rt: HostRuntime) -> Result<(), Fail> {
     let mut names = NameTable::new(rt.alloc());
     let mut source = read_source(rt.alloc(), &mut names)?;
-    let prim = Primitive::InsertText(NodeName(3), 1, piece(rt.alloc())?);
-    source.apply(rt.alloc(), &prim)?;
+    let primitive = Primitive::InsertText(NodeName(3), 1, piece(rt.alloc())?);
+    source.apply(rt.alloc(), &primitive)?;
     let text = source.lines(rt.alloc(), &names)?;
     assert_eq!(rt; text.as_text(), WRITTEN);
     Ok(())

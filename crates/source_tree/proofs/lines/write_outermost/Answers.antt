@@ -1,6 +1,7 @@
 use Rattle.std.proofs.Common.{◌∷◌, ◌++◌}
 use Rattle.std.proofs.lemmas.Result.{on_ok_weaker}
 use Rattle.tree_lines.specs.Canonical.{outermost_lines, end_line, canonical_lines}
+use Rattle.frozen_tree.specs.Frozen.{cells_of}
 use Rattle.source_tree.specs.Unnumbered.{unnumbered}
 use Rattle.source_tree.specs.Lines.{lines_text}
 use Rattle.source_tree.proofs.TextWritten.{begun_then}

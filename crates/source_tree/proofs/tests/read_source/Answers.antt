@@ -6,7 +6,7 @@ use Rattle.tree_lines.specs.Written.{written_lines}
 use Rattle.tree_lines.specs.Given.{given_of, numbers_of}
 use Rattle.source_model.specs.Source.{Source}
 use Rattle.source_model.specs.Changes.{text_at}
-use Rattle.source_tree.specs.Prims.{HasPlace}
+use Rattle.source_primitives.specs.Primitives.{HasPlace}
 use Rattle.source_tree.specs.Begun.{begun}
 use Rattle.source_tree.proofs.Small.{document, is_document, begun_text, begun_inner, begun_made}
 use Rattle.source_tree.proofs.tests.read_source.Goals as goal

@@ -1,18 +1,18 @@
-use Rattle.std.proofs.Common.{◌≡◌, List, length, ap, ◌∙◌, sym, subst, arith, ◌≤◌}
-use Rattle.tree_lines.specs.Given.{items_of, depth_of}
-use Rattle.tree_lines.specs.Tokens.{IsNamed}
+use Rattle.std.proofs.Common.{◌≡◌, ◌+◌, ◌≤◌, List, length, refl, sym, ap, ◌∙◌, subst, arith}
+use Rattle.std.specs.Arc.{arc_value}
+use Rattle.tree_lines.specs.Given.{Given, items_of}
 use Rattle.tree_lines.specs.Whole.{IsTree}
 use Rattle.source_model.specs.Proper.{IsProper}
-use Rattle.std.specs.List.{AllByRecursion}
-use Rattle.serna_kinds.specs.Limits.{depth_limit}
-use Rattle.serna_kinds.specs.Names.{Space}
-use Rattle.source_tree.specs.Arena.{IsArena, source_of, with_spaces, arena_of}
-use Rattle.source_tree.specs.Begun.{begun}
-use Rattle.source_tree.proofs.Planted.{IsProper-begun, IsArena-arena_of, source_of-arena_of, length-items_of, items_tell}
+use Rattle.frozen_tree.specs.Frozen.{cells_of}
+use Rattle.frozen_tree.specs.Maps.{changed_by}
+use Rattle.source_tree.specs.Begun.{begun, numbering, nodes_in}
+use Rattle.source_tree.specs.Kept.{source_told}
+use Rattle.source_tree.proofs.BegunSource.{length-items_of}
+use Rattle.source_tree.proofs.Beginning.{Begins, begins}
 use Rattle.source_tree.proofs.tree.SourceTree.begin.Goals as goal
 
-pub planted-requires : goal.planted-requires
-planted-requires c =
+pub numbered-requires : goal.numbered-requires
+numbered-requires c =
     let tree : IsTree c.args.tree.now.items = c.items.ensures.whole in
     let same : length c.items.result.now ≡ length c.args.tree.now.items = ap length c.items.ensures.value in
     let long : length c.args.tree.now.items ≡ length (items_of tree.given) = ap length tree.same in
@@ -21,24 +21,44 @@ planted-requires c =
 
 pub invariant_of-result : goal.invariant_of-result
 invariant_of-result c =
-    let tree : IsTree c.args.tree.now.items = c.items.ensures.whole in
-    subst IsArena (sym (c.in_ok-nodes.ensures tree.given (c.items.ensures.value ∙ tree.same))) (IsArena-arena_of tree.given tree.whole)
+    let new = cells_of c.in_ok-cells.cells in
+    let made = c.in_ok-numbered.numbered.made in
+    let numbered = c.in_ok-numbered.numbered.items in
+    let items = c.args.tree.now.items in
+    let spaces = c.args.tree.now.spaces in
+    let b : Begins new made spaces items =
+    begins new made spaces items c.items.ensures.whole numbered c.in_ok-changes.changes (c.in_ok-numbered.ensures.items ∙ ap (numbering 1) c.items.ensures.value)
+    (c.in_ok-numbered.ensures.made ∙ ap nodes_in c.items.ensures.value)
+    (λ source linked e. c.in_ok-changes.ensures source linked (c.as_slice.ensures ∙ e))
+    (c.in_ok-cells.ensures.cells ∙ ap (λ cs. changed_by cs (cells_of c.new.result)) c.as_slice-2.ensures ∙ ap (changed_by c.in_ok-changes.changes) c.new.ensures.cells) in
+    b.kept
 
 pub returns-clause-source : goal.returns-clause-source
 returns-clause-source c = λ given is.
-    let tree : IsTree c.args.tree.now.items = c.items.ensures.whole in
-    let same : tree.given ≡ given = items_tell tree.given given (sym tree.same ∙ is) in
-    let shallow : depth_of given ≤ depth_limit = subst (λ g. depth_of g ≤ depth_limit) same tree.whole.shallow in
-    let declared : c.in_ok-spaces.spaces ≡ c.args.tree.now.spaces = c.in_ok-spaces.ensures ∙ c.spaces.ensures in
-    ap (λ nodes. with_spaces c.in_ok-spaces.spaces (source_of nodes)) (c.in_ok-nodes.ensures given (c.items.ensures.value ∙ is))
-    ∙ ap (λ spaces. with_spaces spaces (source_of (arena_of given))) declared ∙ source_of-arena_of c.args.tree.now.spaces given shallow
+    let new = cells_of c.in_ok-cells.cells in
+    let made = c.in_ok-numbered.numbered.made in
+    let numbered = c.in_ok-numbered.numbered.items in
+    let items = c.args.tree.now.items in
+    let spaces = c.args.tree.now.spaces in
+    let b : Begins new made spaces items =
+    begins new made spaces items c.items.ensures.whole numbered c.in_ok-changes.changes (c.in_ok-numbered.ensures.items ∙ ap (numbering 1) c.items.ensures.value)
+    (c.in_ok-numbered.ensures.made ∙ ap nodes_in c.items.ensures.value)
+    (λ source linked e. c.in_ok-changes.ensures source linked (c.as_slice.ensures ∙ e))
+    (c.in_ok-cells.ensures.cells ∙ ap (λ cs. changed_by cs (cells_of c.new.result)) c.as_slice-2.ensures ∙ ap (changed_by c.in_ok-changes.changes) c.new.ensures.cells) in
+    let same : arc_value c.in_ok-spaces.spaces ≡ spaces = c.in_ok-spaces.ensures.ok ∙ c.in_ok-copy.ensures ∙ c.spaces.ensures in
+    ap (source_told new made) same ∙ b.source given is
 
 pub returns-clause-proper : goal.returns-clause-proper
-returns-clause-proper c = λ names all.
-    let tree : IsTree c.args.tree.now.items = c.items.ensures.whole in
-    let spaces : List Space = c.in_ok-spaces.spaces in
-    let begins : with_spaces spaces (source_of c.in_ok-nodes.nodes.items) ≡ begun spaces tree.given =
-    ap (λ nodes. with_spaces spaces (source_of nodes)) (c.in_ok-nodes.ensures tree.given (c.items.ensures.value ∙ tree.same))
-    ∙ source_of-arena_of spaces tree.given tree.whole.shallow in
-    subst (IsProper names) (sym begins)
-    (IsProper-begun names spaces tree.given tree.whole (subst (AllByRecursion (IsNamed names)) tree.same all))
+returns-clause-proper c = λ names named.
+    let new = cells_of c.in_ok-cells.cells in
+    let made = c.in_ok-numbered.numbered.made in
+    let numbered = c.in_ok-numbered.numbered.items in
+    let items = c.args.tree.now.items in
+    let spaces = c.args.tree.now.spaces in
+    let b : Begins new made spaces items =
+    begins new made spaces items c.items.ensures.whole numbered c.in_ok-changes.changes (c.in_ok-numbered.ensures.items ∙ ap (numbering 1) c.items.ensures.value)
+    (c.in_ok-numbered.ensures.made ∙ ap nodes_in c.items.ensures.value)
+    (λ source linked e. c.in_ok-changes.ensures source linked (c.as_slice.ensures ∙ e))
+    (c.in_ok-cells.ensures.cells ∙ ap (λ cs. changed_by cs (cells_of c.new.result)) c.as_slice-2.ensures ∙ ap (changed_by c.in_ok-changes.changes) c.new.ensures.cells) in
+    let same : arc_value c.in_ok-spaces.spaces ≡ spaces = c.in_ok-spaces.ensures.ok ∙ c.in_ok-copy.ensures ∙ c.spaces.ensures in
+    subst (λ sp. IsProper names (source_told new made sp)) (sym same) (b.proper names named)

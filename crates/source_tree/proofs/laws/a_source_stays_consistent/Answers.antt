@@ -1,9 +1,0 @@
-use Rattle.source_tree.proofs.ConsistentKept.{consistent_kept}
-use Rattle.source_tree.proofs.UndoneAll.{consistent_all}
-use Rattle.source_tree.proofs.laws.a_source_stays_consistent.Goals as goal
-
-pub returns : goal.returns
-returns c = record {
-  one = consistent_kept;
-  all = consistent_all;
-}
