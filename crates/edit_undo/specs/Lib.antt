@@ -1,0 +1,4 @@
+pub mod Stacks
+pub mod HistoryLends
+pub mod Leads
+pub mod Examples
