@@ -5,8 +5,8 @@ use Rattle.std.specs.List.{find, position_from, cons_option}
 use Rattle.std.specs.Option.{option_map}
 use Rattle.std.proofs.lemmas.Iterator.Adapters.{position_from-zero}
 use Rattle.std.proofs.lemmas.List.{append-nil, take_more, drop_more, drop_all}
-use Rattle.source_tree.specs.declared.prim.CaretPlace.{CaretPlace}
-use Rattle.source_tree.specs.declared.prim.Caret.{Caret}
+use Rattle.source_primitives.specs.declared.primitive.CaretPlace.{CaretPlace}
+use Rattle.source_primitives.specs.declared.primitive.Caret.{Caret}
 use Rattle.plain_editor.specs.Stops.{Stop, place_of, stops_behind, occurrence_behind, comes_from}
 use Rattle.plain_editor.specs.Stops as stops
 use Rattle.plain_editor.specs.Editor.{Editor, Refused, stands_at, caret_of, put_first, put_among}

@@ -3,12 +3,12 @@ use Rattle.std.proofs.Common.{◌≡◌, ℕ, ◌+◌, ◌<◌, ◌≤◌, ◌==
 use Rattle.std.proofs.lemmas.Bool.{eq-eqb, ne_eqb}
 use Rattle.std.proofs.lemmas.List.{drop_more, drop_all}
 use Rattle.serna_kinds.specs.declared.cells.NodeName.{NodeName}
-use Rattle.source_tree.specs.declared.prim.CaretPlace.{CaretPlace}
-use Rattle.source_tree.specs.declared.prim.CaretPlace.TheVariants.{Text, Into}
-use Rattle.source_tree.specs.declared.prim.Primitive.{Primitive}
-use Rattle.source_tree.specs.declared.prim.Begun.{Begun}
-use Rattle.source_tree.specs.declared.prim.Moves.{Moves}
-use Rattle.source_tree.specs.Places.{IsNear, carried, carried_through, inside_since, moved, moved_through}
+use Rattle.source_primitives.specs.declared.primitive.CaretPlace.{CaretPlace}
+use Rattle.source_primitives.specs.declared.primitive.CaretPlace.TheVariants.{Text, Into}
+use Rattle.source_primitives.specs.declared.primitive.Primitive.{Primitive}
+use Rattle.source_primitives.specs.declared.primitive.Begun.{Begun}
+use Rattle.source_primitives.specs.declared.primitive.Moves.{Moves}
+use Rattle.source_primitives.specs.Places.{IsNear, carried, carried_through, inside_since, moved, moved_through}
 use Rattle.plain_editor.specs.Sound.{StaysNear, GoesNear}
 
 -- what is left of a way: it ends where the whole way ends, and stays near

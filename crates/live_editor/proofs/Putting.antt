@@ -1,9 +1,9 @@
 -- Where `at` puts the caret, the editor stays sound.
 use Rattle.std.proofs.Common.{◌≡◌, ℕ, List, Some, filter, filter_map, subst}
 use Rattle.std.specs.List.{AllByRecursion}
-use Rattle.source_tree.specs.declared.prim.Caret.{Caret}
-use Rattle.source_tree.specs.declared.prim.CaretPlace.{CaretPlace}
-use Rattle.source_tree.specs.Places.{IsPlaceOf}
+use Rattle.source_primitives.specs.declared.primitive.Caret.{Caret}
+use Rattle.source_primitives.specs.declared.primitive.CaretPlace.{CaretPlace}
+use Rattle.source_primitives.specs.Places.{IsPlaceOf}
 use Rattle.plain_editor.specs.Editor.{Editor, stands_at, caret_of, with_caret}
 use Rattle.plain_editor.specs.Sound.{IsLive, AreLive}
 use Rattle.plain_editor.proofs.Steps.{IsCaretLive, carets_live}

@@ -4,8 +4,8 @@ use Rattle.std.proofs.lemmas.Bool.{false≢true, eqb-true, and_parts, eq-eqb, ne
 use Rattle.std.proofs.lemmas.List.{take_more, drop_more, drop_all, map-append}
 use Rattle.serna_kinds.specs.declared.cells.NodeName.{NodeName}
 use Rattle.source_model.specs.Cells.{named}
-use Rattle.source_tree.specs.declared.prim.CaretPlace.{CaretPlace}
-use Rattle.source_tree.specs.declared.prim.CaretPlace.TheVariants.{Text, Into}
+use Rattle.source_primitives.specs.declared.primitive.CaretPlace.{CaretPlace}
+use Rattle.source_primitives.specs.declared.primitive.CaretPlace.TheVariants.{Text, Into}
 use Rattle.plain_editor.specs.Stops.{Stop, place_of, stops_behind, occurrence_behind, comes_from, is_same_place}
 use Rattle.plain_editor.specs.Stops as stops
 use Rattle.plain_editor.specs.Editor.{nearest, stands_for, standing_at}

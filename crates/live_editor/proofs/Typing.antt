@@ -9,16 +9,16 @@ use Rattle.serna_kinds.specs.declared.cells.Facet.TheVariants as facet
 use Rattle.serna_kinds.specs.Content.{Content}
 use Rattle.serna_kinds.specs.Content as content
 use Rattle.source_model.specs.Cells.{named, facet_of, cell_of}
-use Rattle.source_tree.proofs.Inside.{spot_text}
-use Rattle.source_tree.proofs.ShortTexts.{text_short}
+use Rattle.source_primitives.proofs.Inside.{spot_text}
+use Rattle.source_primitives.proofs.ShortTexts.{text_short}
 use Rattle.source_model.specs.Changes.{text_at}
-use Rattle.source_tree.specs.declared.prim.Primitive.{Primitive}
-use Rattle.source_tree.specs.declared.prim.Primitive.TheVariants.{InsertText, InsertChild}
-use Rattle.source_tree.specs.declared.prim.SubItem.TheVariants as item
-use Rattle.source_tree.specs.declared.prim.CaretPlace.TheVariants.{Text, Into}
-use Rattle.source_tree.specs.Prims.{applied, MayType}
-use Rattle.source_tree.specs.Places.{IsPlaceOf, begun_in}
-use Rattle.source_tree.proofs.PlacesKept.{begun_new}
+use Rattle.source_primitives.specs.declared.primitive.Primitive.{Primitive}
+use Rattle.source_primitives.specs.declared.primitive.Primitive.TheVariants.{InsertText, InsertChild}
+use Rattle.source_primitives.specs.declared.primitive.SubItem.TheVariants as item
+use Rattle.source_primitives.specs.declared.primitive.CaretPlace.TheVariants.{Text, Into}
+use Rattle.source_primitives.specs.Primitives.{applied, MayType}
+use Rattle.source_primitives.specs.Places.{IsPlaceOf, begun_in}
+use Rattle.source_primitives.proofs.PlacesKept.{begun_new}
 use Rattle.plain_editor.specs.Editor.{Editor, Reply, Done, Refused, Long, Nodes, Revisions, changed, bytes_of, bytes_at, typed_at}
 use Rattle.plain_editor.specs.Sound.{IsSound}
 use Rattle.plain_editor.proofs.Steps.{typed_text_sound, typed_into_sound}

@@ -3,9 +3,9 @@ use Rattle.std.specs.Prelude.{◌≡◌, ℕ, ◌+◌, ◌==◌, ◌&&◌, Bool,
 use Rattle.std.specs.Coded.{Coded, code_by, coded×, coded_ℕ}
 use Rattle.serna_kinds.specs.Names.{NameParts}
 use Rattle.source_model.specs.Source.{Source}
-use Rattle.source_tree.specs.declared.prim.Caret.{Caret}
-use Rattle.source_tree.specs.declared.prim.Moves.{Moves}
-use Rattle.source_tree.specs.Places.{moved_through}
+use Rattle.source_primitives.specs.declared.primitive.Caret.{Caret}
+use Rattle.source_primitives.specs.declared.primitive.Moves.{Moves}
+use Rattle.source_primitives.specs.Places.{moved_through}
 use Rattle.result_origin.specs.declared.origin.Origin.{Origin}
 use Rattle.plain_editor.specs.Editor.{Editor, Reply, Refused, NoPlace, put_there, refused_by}
 use Rattle.plain_editor.specs.Editor as editor

@@ -2,10 +2,10 @@ ghost use Rattle.std.specs.List.{find, flat_map};
 ghost use Rattle.std.specs.Prelude.{position, ◌≡◌, ◌≢◌, ◌++◌, ◌+◌, ◌∷◌, [], Ok, Err, IsTrue, None, IfOk, IfErr, OnOk, OnErr, ℕ, List, filter, filter_map, length, Some, ◌<◌, ◌≤◌};
 ghost use Rattle.std.specs.Str.{chars};
 ghost use Rattle.std.specs.String.{string_bytes};
-ghost use Rattle.source_tree.specs.declared.prim.CaretPlace.TheVariants as place;
+ghost use Rattle.source_primitives.specs.declared.primitive.CaretPlace.TheVariants as place;
 ghost use Rattle.serna_kinds.specs.Limits.{change_limit};
-ghost use Rattle.source_tree.specs.Prims.{applied, MayType};
-ghost use Rattle.source_tree.specs.Places.{IsPlaceOf, begun_in, parents_in, is_there, node_of};
+ghost use Rattle.source_primitives.specs.Primitives.{applied, MayType};
+ghost use Rattle.source_primitives.specs.Places.{IsPlaceOf, begun_in, parents_in, is_there, node_of};
 ghost use Rattle.source_model.specs.Changes.{text_at};
 ghost use Rattle.source_tree.specs.Unnumbered.{document_of};
 ghost use Rattle.tree_lines.specs.Canonical.{canonical_text};
@@ -26,7 +26,8 @@ use result_origin::Origin;
 use serna_kinds::{
     Cell, CellValue, Chars, Facet, Items, NameTable, NoMemory, NodeName, SourceView,
 };
-use source_tree::{Begun, Caret, CaretPlace, Moves, Primitive, SourceTree, SubItem};
+use source_primitives::{Begun, Caret, CaretPlace, Moves, Primitive, SubItem};
+use source_tree::SourceTree;
 use std::alloc::{AllocError, Global};
 use std::marker::Model;
 use style_sheet::Style;
@@ -39,7 +40,7 @@ const MAX_NODES: u32 = 1_000_000;
 const MAX_REVISIONS: u32 = 50_000;
 
 /// The plain editor: one source, a caret and the stops of the last view, changed by one command line after another.
-#[derive(Debug, Drop)]
+#[derive(Drop)]
 pub struct Editor {
     names: NameTable,
     source: SourceTree,

@@ -1,11 +1,11 @@
 ghost use Rattle.std.specs.Prelude.{◌≡◌};
-ghost use Rattle.source_tree.specs.Places.{carried, carried_through, behind_removal, inside_since, moved, moved_through, IsNear};
+ghost use Rattle.source_primitives.specs.Places.{carried, carried_through, behind_removal, inside_since, moved, moved_through, IsNear};
 ghost use Rattle.plain_editor.specs.Sound.{StaysNear, GoesNear};
 ghost use Rattle.plain_editor.specs.Stops.{is_same_place, place_of};
 
 use result_origin::Origin;
 use serna_kinds::NodeName;
-use source_tree::{Begun, CaretPlace, Moves, Primitive};
+use source_primitives::{Begun, CaretPlace, Moves, Primitive};
 
 /// The place of the source that an origin is, if it is one.
 pub(crate) fn place_of(origin: Origin) -> Option<CaretPlace>

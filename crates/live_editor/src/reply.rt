@@ -4,7 +4,7 @@ ghost use Rattle.plain_editor.specs.Editor.{Told, rule_word, place_words, standi
 ghost use Rattle.live_editor.specs.Answers.{rule_of, reply_of, standing_of};
 
 use serna_kinds::NoMemory;
-use source_tree::CaretPlace;
+use source_primitives::CaretPlace;
 use std::alloc::Global;
 
 /// Why a command is refused.

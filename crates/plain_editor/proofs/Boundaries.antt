@@ -18,7 +18,7 @@ use Rattle.plain_editor.specs.Views.{view_pages}
 use Rattle.plain_editor.specs.Stops.{behind_start, Boundary, boundary, run_boundaries, part_boundaries, line_boundaries, page_boundaries, Stop, stops_behind, stops_of, view_stops}
 use Rattle.plain_editor.specs.Seen.{StandsThere, shown_characters, ShowsItsPlace, ShowTheirPlaces}
 use Rattle.plain_editor.specs.Boundaries.{IsLineOn, StandsOnRight, boundary_of}
-use Rattle.source_tree.proofs.TextPlaces.{size, size-append}
+use Rattle.source_primitives.proofs.TextPlaces.{size, size-append}
 use Rattle.plain_editor.proofs.Encoded.{reads_back}
 use Rattle.plain_editor.proofs.Marks.{all_both}
 use Rattle.plain_editor.proofs.Seen.{view_seen}

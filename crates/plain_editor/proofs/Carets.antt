@@ -2,11 +2,11 @@
 use Rattle.std.proofs.Common.{◌≡◌, ℕ, ◌+◌, List, ◌∷◌, ◌++◌, Some, refl, sym, ap, ◌∙◌, subst, append_assoc}
 use Rattle.std.proofs.lemmas.Option.{same_Some}
 use Rattle.serna_kinds.specs.declared.cells.NodeName.{NodeName}
-use Rattle.source_tree.specs.declared.prim.CaretPlace.TheVariants as place
-use Rattle.source_tree.specs.Places.{moved_through}
-use Rattle.source_tree.specs.Neighbours.{StandsBetween}
-use Rattle.source_tree.proofs.TextPlaces.{size, size-append}
-use Rattle.source_tree.proofs.Neighbours.{text_put_in}
+use Rattle.source_primitives.specs.declared.primitive.CaretPlace.TheVariants as place
+use Rattle.source_primitives.specs.Places.{moved_through}
+use Rattle.source_primitives.specs.Neighbours.{StandsBetween}
+use Rattle.source_primitives.proofs.TextPlaces.{size, size-append}
+use Rattle.source_primitives.proofs.Neighbours.{text_put_in}
 use Rattle.style_sheet.specs.Sheet.{StyleValue}
 use Rattle.result_origin.specs.declared.pages.Page.{Page}
 use Rattle.plain_editor.specs.Commands.{command_of, Show, At, Typing}

@@ -17,22 +17,22 @@ use Rattle.source_model.specs.Cells.{Spot, spot_in, spot_of, named, kind_of, nam
 use Rattle.source_model.specs.Changes.{with_characters, text_at, with_text, with_kids, inserted_at}
 use Rattle.source_model.specs.Proper.{uses, IsProper}
 use Rattle.source_model.proofs.Spots.{if_same, if_other, text_spot, kids_spot, spot_in-with_text, spot_in-with_leaf, spot_in-new_leaf, spot_in-unused, used-from_spot, leaf}
-use Rattle.source_tree.specs.declared.prim.Primitive.TheVariants.{InsertText, InsertChild}
-use Rattle.source_tree.specs.declared.prim.SubItem.TheVariants as item
-use Rattle.source_tree.specs.declared.prim.Caret.{Caret}
-use Rattle.source_tree.specs.declared.prim.CaretPlace.{CaretPlace}
-use Rattle.source_tree.specs.declared.prim.CaretPlace.TheVariants as place
-use Rattle.source_tree.specs.Prims.{applied, with_tree, IsElement}
+use Rattle.source_primitives.specs.declared.primitive.Primitive.TheVariants.{InsertText, InsertChild}
+use Rattle.source_primitives.specs.declared.primitive.SubItem.TheVariants as item
+use Rattle.source_primitives.specs.declared.primitive.Caret.{Caret}
+use Rattle.source_primitives.specs.declared.primitive.CaretPlace.{CaretPlace}
+use Rattle.source_primitives.specs.declared.primitive.CaretPlace.TheVariants as place
+use Rattle.source_primitives.specs.Primitives.{applied, with_tree, IsElement}
 use Rattle.serna_kinds.specs.Limits.{text_limit, node_limit, change_limit}
-use Rattle.source_tree.specs.Places.{IsPlaceOf, is_there, moved_through}
-use Rattle.source_tree.proofs.Inside.{spot_text}
+use Rattle.source_primitives.specs.Places.{IsPlaceOf, is_there, moved_through}
+use Rattle.source_primitives.proofs.Inside.{spot_text}
 use Rattle.style_sheet.specs.Sheet.{StyleValue}
 use Rattle.plain_editor.specs.Commands.{Command, command_of}
 use Rattle.plain_editor.specs.Commands as command
 use Rattle.plain_editor.specs.Stops.{Stop}
 use Rattle.plain_editor.specs.Editor.{Editor, Reply, Done, Refused, Rule, Long, Nodes, Revisions, Gone, stands_at, caret_of, with_caret, put_there, put_first, put_at, changed, bytes_of, bytes_at, typed_at, typed, told, obeyed, step}
 use Rattle.plain_editor.specs.Sound.{IsCaretOf, IsSound}
-use Rattle.source_tree.proofs.PlacesKept.{text_at-with_text}
+use Rattle.source_primitives.proofs.PlacesKept.{text_at-with_text}
 use Rattle.plain_editor.specs.Keystrokes.{HasOtherText, HasNewFirstText}
 
 numbers-with_text : (n : ℕ) (change : List ℕ → List ℕ) (f : Forest) → numbers (with_text n change f) ≡ numbers f

@@ -14,9 +14,9 @@ use Rattle.source_model.specs.Source as source
 use Rattle.source_model.specs.Cells.{Spot, spot_of, named}
 use Rattle.source_model.specs.Changes.{characters, text_at}
 use Rattle.source_model.specs.Proper.{BeginsNoText}
-use Rattle.source_tree.specs.declared.prim.CaretPlace.TheVariants as place
-use Rattle.source_tree.specs.Prims.{IsElement}
-use Rattle.source_tree.specs.Places.{IsPlaceOf}
+use Rattle.source_primitives.specs.declared.primitive.CaretPlace.TheVariants as place
+use Rattle.source_primitives.specs.Primitives.{IsElement}
+use Rattle.source_primitives.specs.Places.{IsPlaceOf}
 use Rattle.result_origin.specs.declared.origin.Origin.{Origin}
 use Rattle.result_origin.specs.declared.origin.Origin.TheVariants as origin
 use Rattle.result_origin.specs.Parts.{Mark, Run, Begin, Attr, AttrEnd, Finish, ResultPart, Says, Hole, filled}

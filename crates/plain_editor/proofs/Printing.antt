@@ -2,11 +2,11 @@
 use Rattle.std.proofs.Common.{◌≡◌, ◌≢◌, ℕ, Bool, true, false, List, [], ◌∷◌, Option, Some, None, if◌then◌else◌, refl}
 use Rattle.serna_kinds.specs.Names.{NameParts}
 use Rattle.tree_lines.specs.Writable.{IsText}
-use Rattle.source_tree.specs.declared.prim.Caret.{Caret}
-use Rattle.source_tree.specs.declared.prim.CaretPlace.{CaretPlace}
-use Rattle.source_tree.specs.declared.prim.CaretPlace.TheVariants.{Text, Into}
-use Rattle.source_tree.specs.declared.prim.Primitive.TheVariants.{InsertText}
-use Rattle.source_tree.specs.Places.{IsPlaceOf, is_there, moved_through}
+use Rattle.source_primitives.specs.declared.primitive.Caret.{Caret}
+use Rattle.source_primitives.specs.declared.primitive.CaretPlace.{CaretPlace}
+use Rattle.source_primitives.specs.declared.primitive.CaretPlace.TheVariants.{Text, Into}
+use Rattle.source_primitives.specs.declared.primitive.Primitive.TheVariants.{InsertText}
+use Rattle.source_primitives.specs.Places.{IsPlaceOf, is_there, moved_through}
 use Rattle.source_tree.specs.Printing.{IsPrintable}
 use Rattle.source_tree.proofs.PrintedBack.{stays_printable}
 use Rattle.source_model.specs.Proper.{IsProper}

@@ -7,8 +7,8 @@ use Rattle.std.specs.Str.{chars}
 use Rattle.serna_kinds.specs.Names.{NameParts}
 use Rattle.serna_kinds.specs.declared.cells.NodeName.{NodeName}
 use Rattle.source_model.specs.Source.{Source}
-use Rattle.source_tree.specs.declared.prim.CaretPlace.{CaretPlace}
-use Rattle.source_tree.specs.Places.{IsPlaceOf}
+use Rattle.source_primitives.specs.declared.primitive.CaretPlace.{CaretPlace}
+use Rattle.source_primitives.specs.Places.{IsPlaceOf}
 use Rattle.source_model.specs.Changes.{text_at}
 use Rattle.result_origin.specs.declared.origin.Origin.{Origin}
 use Rattle.result_origin.specs.declared.origin.Origin.TheVariants as origin
@@ -19,7 +19,7 @@ use Rattle.template_run.specs.Batch.{batch}
 use Rattle.simple_pages.specs.Groups.{ShownRun, runs_in, is_root, lines_in}
 use Rattle.simple_pages.specs.Pages.{whole_part, line_at, lines_from, page_lines}
 use Rattle.plain_editor.specs.Stops.{Boundary, behind_start, place_of, run_boundaries, part_boundaries, line_boundaries, Stop, stops_behind, view_stops}
-use Rattle.source_tree.proofs.TextPlaces.{size, size-append}
+use Rattle.source_primitives.proofs.TextPlaces.{size, size-append}
 use Rattle.plain_editor.proofs.Encoded.{reads_whole}
 use Rattle.plain_editor.proofs.Marks.{all_both, IsFrom, AreFrom, batch_from, AreRunsFrom, AreGroupsFrom, runs_from, lines_from_marks}
 

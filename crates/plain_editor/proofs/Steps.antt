@@ -12,16 +12,16 @@ use Rattle.source_model.specs.Source as source
 use Rattle.source_model.specs.Cells.{Spot, spot_in, spot_of, or_else, named}
 use Rattle.source_model.specs.Proper.{AreNodes, BeginsNoText, IsProper}
 use Rattle.source_model.proofs.Spots.{if_same, if_other}
-use Rattle.source_tree.specs.declared.prim.Primitive.{Primitive}
-use Rattle.source_tree.specs.declared.prim.Primitive.TheVariants.{InsertText, InsertChild}
-use Rattle.source_tree.specs.declared.prim.Moves.{Moves}
-use Rattle.source_tree.specs.declared.prim.SubItem.TheVariants as item
-use Rattle.source_tree.specs.declared.prim.Caret.{Caret}
-use Rattle.source_tree.specs.declared.prim.CaretPlace.{CaretPlace}
-use Rattle.source_tree.specs.declared.prim.CaretPlace.TheVariants.{Text, Into}
-use Rattle.source_tree.specs.Prims.{applied, MayType, KeepsProper, HasPlace}
-use Rattle.source_tree.specs.Places.{IsPlaceOf, IsNear, Lasts, is_there, moved, moved_through, moves_of}
-use Rattle.source_tree.proofs.ProperKept.{proper_kept}
+use Rattle.source_primitives.specs.declared.primitive.Primitive.{Primitive}
+use Rattle.source_primitives.specs.declared.primitive.Primitive.TheVariants.{InsertText, InsertChild}
+use Rattle.source_primitives.specs.declared.primitive.Moves.{Moves}
+use Rattle.source_primitives.specs.declared.primitive.SubItem.TheVariants as item
+use Rattle.source_primitives.specs.declared.primitive.Caret.{Caret}
+use Rattle.source_primitives.specs.declared.primitive.CaretPlace.{CaretPlace}
+use Rattle.source_primitives.specs.declared.primitive.CaretPlace.TheVariants.{Text, Into}
+use Rattle.source_primitives.specs.Primitives.{applied, MayType, KeepsProper, HasPlace}
+use Rattle.source_primitives.specs.Places.{IsPlaceOf, IsNear, Lasts, is_there, moved, moved_through, moves_of}
+use Rattle.source_primitives.proofs.ProperKept.{proper_kept}
 use Rattle.style_sheet.specs.Sheet.{StyleValue}
 use Rattle.plain_editor.specs.Stops.{Stop, place_of, view_stops}
 use Rattle.plain_editor.specs.Plain.{is_plain}
@@ -35,8 +35,8 @@ use Rattle.tree_lines.proofs.MeantTexts.{meant-text}
 use Rattle.plain_editor.proofs.Plain.{plain_meant, is_line-plain}
 use Rattle.plain_editor.proofs.Marks.{all_filter}
 use Rattle.plain_editor.proofs.Runs.{IsPlaceIf, view_live}
-use Rattle.source_tree.proofs.ShortTexts.{or_spot}
-use Rattle.source_tree.proofs.PlacesKept.{place_lasts, moved_lasts, carried_near, behind_piece, behind_new}
+use Rattle.source_primitives.proofs.ShortTexts.{or_spot}
+use Rattle.source_primitives.proofs.PlacesKept.{place_lasts, moved_lasts, carried_near, behind_piece, behind_new}
 
 abbrev pub IsCaretLive : Source → List Moves → Caret → Type 0
 IsCaretLive s since caret = IsLive s since (Some caret.place)

@@ -2,10 +2,10 @@
 use Rattle.std.specs.Prelude.{◌≡◌, ℕ, List, [], Option, Some}
 use Rattle.serna_kinds.specs.declared.cells.NodeName.{NodeName}
 use Rattle.source_model.specs.Source.{Source}
-use Rattle.source_tree.specs.declared.prim.Caret.{Caret}
-use Rattle.source_tree.specs.declared.prim.CaretPlace.{CaretPlace}
-use Rattle.source_tree.specs.declared.prim.CaretPlace.TheVariants.{Text}
-use Rattle.source_tree.specs.Neighbours.{StandsBetween}
+use Rattle.source_primitives.specs.declared.primitive.Caret.{Caret}
+use Rattle.source_primitives.specs.declared.primitive.CaretPlace.{CaretPlace}
+use Rattle.source_primitives.specs.declared.primitive.CaretPlace.TheVariants.{Text}
+use Rattle.source_primitives.specs.Neighbours.{StandsBetween}
 use Rattle.style_sheet.specs.Sheet.{StyleValue}
 use Rattle.result_origin.specs.declared.origin.Origin.{Origin}
 use Rattle.result_origin.specs.declared.pages.Page.{Page}

@@ -1,8 +1,8 @@
 -- Which of the stops of the last show `at` takes (this project's own).
 use Rattle.std.specs.Prelude.{◌≡◌, ℕ, ◌⊎◌, false, List, ◌∷◌, ◌++◌, Some, IsSome, IsTrue}
 use Rattle.std.specs.List.{AllByRecursion}
-use Rattle.source_tree.specs.declared.prim.CaretPlace.{CaretPlace}
-use Rattle.source_tree.specs.Places.{is_there, moved_through}
+use Rattle.source_primitives.specs.declared.primitive.CaretPlace.{CaretPlace}
+use Rattle.source_primitives.specs.Places.{is_there, moved_through}
 use Rattle.plain_editor.specs.Stops.{Stop, place_of}
 use Rattle.plain_editor.specs.Editor.{Editor, Rule, NoPlace, refused_by, with_caret}
 

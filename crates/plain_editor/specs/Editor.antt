@@ -7,15 +7,15 @@ use Rattle.serna_kinds.specs.Names.{NameParts}
 use Rattle.source_model.specs.Source.{Source}
 use Rattle.source_model.specs.Cells.{named}
 use Rattle.source_model.specs.Changes.{text_at}
-use Rattle.source_tree.specs.declared.prim.CaretPlace.{CaretPlace}
-use Rattle.source_tree.specs.declared.prim.CaretPlace.TheVariants.{Text, Into}
-use Rattle.source_tree.specs.declared.prim.Caret.{Caret}
-use Rattle.source_tree.specs.declared.prim.Primitive.{Primitive}
-use Rattle.source_tree.specs.declared.prim.Primitive.TheVariants.{InsertText, InsertChild}
-use Rattle.source_tree.specs.declared.prim.Moves.{Moves}
-use Rattle.source_tree.specs.declared.prim.SubItem.TheVariants as item
-use Rattle.source_tree.specs.Prims.{applied_all}
-use Rattle.source_tree.specs.Places.{moves_of, moved_through, is_there}
+use Rattle.source_primitives.specs.declared.primitive.CaretPlace.{CaretPlace}
+use Rattle.source_primitives.specs.declared.primitive.CaretPlace.TheVariants.{Text, Into}
+use Rattle.source_primitives.specs.declared.primitive.Caret.{Caret}
+use Rattle.source_primitives.specs.declared.primitive.Primitive.{Primitive}
+use Rattle.source_primitives.specs.declared.primitive.Primitive.TheVariants.{InsertText, InsertChild}
+use Rattle.source_primitives.specs.declared.primitive.Moves.{Moves}
+use Rattle.source_primitives.specs.declared.primitive.SubItem.TheVariants as item
+use Rattle.source_primitives.specs.Primitives.{applied_all}
+use Rattle.source_primitives.specs.Places.{moves_of, moved_through, is_there}
 use Rattle.source_tree.specs.Unnumbered.{document_of}
 use Rattle.tree_lines.specs.Canonical.{canonical_text}
 use Rattle.style_sheet.specs.Sheet.{StyleValue}

@@ -4,9 +4,9 @@ use Rattle.std.specs.List.{AllByRecursion}
 use Rattle.std.specs.Str.{chars}
 use Rattle.source_model.specs.Source.{Source}
 use Rattle.source_model.specs.Changes.{text_at}
-use Rattle.source_tree.specs.declared.prim.CaretPlace.TheVariants.{Text, Into}
-use Rattle.source_tree.specs.Places.{IsPlaceOf}
-use Rattle.source_tree.specs.Neighbours.{StandsBetween}
+use Rattle.source_primitives.specs.declared.primitive.CaretPlace.TheVariants.{Text, Into}
+use Rattle.source_primitives.specs.Places.{IsPlaceOf}
+use Rattle.source_primitives.specs.Neighbours.{StandsBetween}
 use Rattle.result_origin.specs.declared.origin.Origin.{Origin}
 use Rattle.result_origin.specs.declared.origin.Origin.TheVariants as origin
 use Rattle.result_origin.specs.declared.pages.Line.{Line}

@@ -4,11 +4,11 @@ use Rattle.std.specs.List.{AllByRecursion}
 use Rattle.serna_kinds.specs.Names.{NameParts}
 use Rattle.source_model.specs.Source.{Source}
 use Rattle.source_model.specs.Proper.{IsProper}
-use Rattle.source_tree.specs.declared.prim.Caret.{Caret}
-use Rattle.source_tree.specs.declared.prim.Primitive.{Primitive}
-use Rattle.source_tree.specs.declared.prim.Moves.{Moves}
-use Rattle.source_tree.specs.Places.{IsPlaceOf, IsNear, Lasts, carried, moved, moved_through}
-use Rattle.source_tree.specs.declared.prim.CaretPlace.{CaretPlace}
+use Rattle.source_primitives.specs.declared.primitive.Caret.{Caret}
+use Rattle.source_primitives.specs.declared.primitive.Primitive.{Primitive}
+use Rattle.source_primitives.specs.declared.primitive.Moves.{Moves}
+use Rattle.source_primitives.specs.Places.{IsPlaceOf, IsNear, Lasts, carried, moved, moved_through}
+use Rattle.source_primitives.specs.declared.primitive.CaretPlace.{CaretPlace}
 use Rattle.plain_editor.specs.Stops.{Stop, place_of}
 use Rattle.plain_editor.specs.Editor.{Editor}
 

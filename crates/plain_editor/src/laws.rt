@@ -28,7 +28,7 @@ ghost use Rattle.serna_kinds.specs.declared.cells.NodeName.{NodeName};
 ghost use Rattle.serna_kinds.specs.Texts.{inserted};
 ghost use Rattle.source_model.specs.Cells.{named};
 ghost use Rattle.source_model.specs.Changes.{text_at};
-ghost use Rattle.source_tree.specs.declared.prim.CaretPlace.TheVariants as place;
+ghost use Rattle.source_primitives.specs.declared.primitive.CaretPlace.TheVariants as place;
 ghost use Rattle.plain_editor.specs.Texts.{written_text};
 ghost use Rattle.plain_editor.specs.Answers.{answers};
 ghost use Rattle.plain_editor.specs.Rows.{oak, empty_document, one_text, cut_off, text_outside, another_head, empty_doc, oak_doc, plain, types_at_end, typed_at_end, types_into, typed_into, asks, told_what_it_asks, full_doc, full_document, full_script, full_answers, block_sheet, two_doc, block_input, block_script, block_answers};

@@ -17,7 +17,7 @@ const STYLE_HEAD: &[u8] = b"!style ";
 const DOCUMENT_HEAD: &[u8] = b"!document";
 
 /// What an input says before its script: the table of all names, the stylesheet, and the source that the document begins.
-#[derive(Debug, Drop)]
+#[derive(Drop)]
 pub(crate) struct Opening {
     pub(crate) names: NameTable,
     pub(crate) style: Style,

@@ -17,7 +17,7 @@ const SCRIPT_HEAD: &[u8] = b"!script";
 
 /// An accepted input: the table of the names of its stylesheet and its document, the stylesheet, the source that the document
 /// begins, its lines, and the place of the script's first line.
-#[derive(Debug, Drop)]
+#[derive(Drop)]
 pub(crate) struct Judged {
     pub(crate) names: NameTable,
     pub(crate) style: Style,

@@ -1,6 +1,6 @@
 -- By the place that the origin is.
 use Rattle.std.proofs.Common.{Option, Some, None, false, ap, ◌∙◌}
-use Rattle.source_tree.specs.declared.prim.CaretPlace.{CaretPlace}
+use Rattle.source_primitives.specs.declared.primitive.CaretPlace.{CaretPlace}
 use Rattle.plain_editor.specs.Stops.{is_same_place}
 use Rattle.live_editor.proofs.editor.comes_from.Goals as goal
 

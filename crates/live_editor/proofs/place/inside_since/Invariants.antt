@@ -1,5 +1,5 @@
 use Rattle.std.proofs.Common.{◌≡◌, drop}
-use Rattle.source_tree.specs.Places.{inside_since}
+use Rattle.source_primitives.specs.Places.{inside_since}
 use Rattle.live_editor.proofs.place.inside_since.Given as goal
 
 -- none of the elements so far was this one

@@ -2,7 +2,7 @@
 use Rattle.std.proofs.Common.{◌≡◌, Some, filter, filter_map, sym, ap, ◌∙◌, subst}
 use Rattle.std.specs.Option.{option_map}
 use Rattle.std.proofs.Common.{Vec, Global}
-use Rattle.source_tree.specs.Places.{Lasts, moved_through}
+use Rattle.source_primitives.specs.Places.{Lasts, moved_through}
 use Rattle.plain_editor.specs.Editor.{Editor, stands_at, caret_of, with_caret}
 use Rattle.plain_editor.specs.Sound.{GoesNear}
 use Rattle.live_editor.specs.declared.view.Boundary.{Boundary}

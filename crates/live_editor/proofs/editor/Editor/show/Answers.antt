@@ -1,7 +1,7 @@
 -- The stops that are kept are those of the view.
 use Rattle.std.proofs.Common.{[], Some, List, sym, ap, ◌∙◌, subst}
 use Rattle.std.specs.List.{flat_map}
-use Rattle.source_tree.specs.declared.prim.Moves.{Moves}
+use Rattle.source_primitives.specs.declared.primitive.Moves.{Moves}
 use Rattle.plain_editor.specs.Views.{view_pages}
 use Rattle.plain_editor.specs.Stops.{stops_behind, page_boundaries, view_stops}
 use Rattle.plain_editor.specs.Stops as stops

@@ -1,13 +1,13 @@
 -- A new text is made the first child of an element.
 use Rattle.std.proofs.Common.{◌≡◌, ◌+◌, ◌≤◌, ◌∷◌, [], ◌++◌, length, ℕ, List, sym, ap, ◌∙◌, subst, arith}
 use Rattle.source_model.specs.Cells.{named}
-use Rattle.source_tree.specs.declared.prim.SubItem.{SubItem}
-use Rattle.source_tree.specs.declared.prim.SubItem.TheVariants as item
-use Rattle.source_tree.specs.declared.prim.Primitive.TheVariants.{InsertChild}
-use Rattle.source_tree.specs.declared.prim.Begun.{Begun}
-use Rattle.source_tree.specs.Prims.{applied}
-use Rattle.source_tree.specs.Places.{begun_in}
-use Rattle.source_tree.specs.declared.prim.CaretPlace.TheVariants.{Text}
+use Rattle.source_primitives.specs.declared.primitive.SubItem.{SubItem}
+use Rattle.source_primitives.specs.declared.primitive.SubItem.TheVariants as item
+use Rattle.source_primitives.specs.declared.primitive.Primitive.TheVariants.{InsertChild}
+use Rattle.source_primitives.specs.declared.primitive.Begun.{Begun}
+use Rattle.source_primitives.specs.Primitives.{applied}
+use Rattle.source_primitives.specs.Places.{begun_in}
+use Rattle.source_primitives.specs.declared.primitive.CaretPlace.TheVariants.{Text}
 use Rattle.plain_editor.specs.Editor.{Editor, bytes_of, changed}
 use Rattle.live_editor.specs.Held.{IsSoundEditor}
 use Rattle.live_editor.proofs.Typing.{into_sound, into_begun}

@@ -1,11 +1,11 @@
 -- Characters are put into a text node that has room for them.
 use Rattle.std.proofs.Common.{◌≡◌, ◌+◌, ◌∷◌, [], length, refl, sym, ap, ◌∙◌, subst, arith}
 use Rattle.source_model.specs.Changes.{text_at}
-use Rattle.source_tree.specs.declared.prim.Primitive.TheVariants.{InsertText}
-use Rattle.source_tree.specs.declared.prim.CaretPlace.TheVariants.{Text}
+use Rattle.source_primitives.specs.declared.primitive.Primitive.TheVariants.{InsertText}
+use Rattle.source_primitives.specs.declared.primitive.CaretPlace.TheVariants.{Text}
 use Rattle.plain_editor.specs.Editor.{Editor, Done, bytes_of, changed}
 use Rattle.live_editor.specs.Held.{IsSoundEditor}
-use Rattle.source_tree.proofs.ShortTexts.{place_short}
+use Rattle.source_primitives.proofs.ShortTexts.{place_short}
 use Rattle.live_editor.proofs.Typing.{room_there, text_revisions, text_done, text_sound, text_may}
 use Rattle.live_editor.proofs.editor.Editor.type_into_text.Goals as goal
 
