@@ -61,7 +61,7 @@ own_pairs names (Element name pairs) known = known.1
 own_pairs names (Text text) known = tt
 own_pairs names (Comment text) known = tt
 
-pairs_at : (source : Source) (n : ℕ) (s : Stands source n) → attributes_at source (named n) ≡ pairs_of s.body
+pub pairs_at : (source : Source) (n : ℕ) (s : Stands source n) → attributes_at source (named n) ≡ pairs_of s.body
 pairs_at source n s = ap (λ (o : Option Spot). elim o [ None ↦ [] | Some spot ↦ attributes_of spot ]) s.stood.end.there.1
 
 pub pairs_known : (names : List NameParts) (source : Source) (n : NodeName) → IsProper names source → AreKnown names (pair_names (attributes_at source n))

@@ -81,7 +81,7 @@ below_behind (a ∷ p) [] = refl
 below_behind (a ∷ p) (b ∷ q) = by_first p q b (same_step a b) (below_behind p q)
 
 -- of a node and what is below it, where attributes do not pass, and what is below passes as it does
-own_below : (g : Passes) (t : Thing → Bool) (n : ℕ) (body : Body) (kids : Forest) → ((j : ℕ) (x : Thing) → g ((0, j) ∷ []) x ≡ false) → ((j : ℕ) (m : Path) (x : Thing) → g ((1, j) ∷ m) x ≡ nodes_pass t m x) →
+pub own_below : (g : Passes) (t : Thing → Bool) (n : ℕ) (body : Body) (kids : Forest) → ((j : ℕ) (x : Thing) → g ((0, j) ∷ []) x ≡ false) → ((j : ℕ) (m : Path) (x : Thing) → g ((1, j) ∷ m) x ≡ nodes_pass t m x) →
     pick g (own n body kids) ≡ (if g [] (node_thing n body) then ref.Node (named n) ∷ [] else []) ++ took t (all_in kids)
 own_below g t n body kids never same =
     own_front g n body kids never
@@ -102,7 +102,7 @@ heads_took : (t : Thing → Bool) (f : Forest) → heads t f ≡ took t (heads_i
 heads_took t none = refl
 heads_took t (node n body kids rest) = ap (λ (l : List NodeRef). took_one t (n, body) ++ l) (heads_took t rest)
 
-kids_of_it : (names : List NameParts) (source : Source) (n : ℕ) (s : Stands source n) → IsProper names source → kids_at source (named n) ≡ node_names (heads_in s.kids)
+pub kids_of_it : (names : List NameParts) (source : Source) (n : ℕ) (s : Stands source n) → IsProper names source → kids_at source (named n) ≡ node_names (heads_in s.kids)
 kids_of_it names source n s proper = kids_are names source n (record { up = s.stood.end.there.0; body = s.body; kids = s.kids }) proper s.stood.end.there.1
 
 pub kids_gone : (source : Source) (n : ℕ) → IsGone None n 0 source.tree → kids_at source (named n) ≡ []
@@ -138,7 +138,7 @@ descendant_on names source n proper = elim (stands names source n proper) [
 ]
 
 -- the node itself
-or_down : (c d : Path → Bool) (p m : Path) → (down c p m || down d p m) ≡ down (λ q. c q || d q) p m
+pub or_down : (c d : Path → Bool) (p m : Path) → (down c p m || down d p m) ≡ down (λ q. c q || d q) p m
 or_down c d p m = by (behind p m)
   where
     by : (o : Option Path) → (elim o [ None ↦ false | Some q ↦ c q ] || elim o [ None ↦ false | Some q ↦ d q ]) ≡ elim o [ None ↦ false | Some q ↦ c q || d q ]
@@ -176,7 +176,7 @@ below_or_self_at names source n proper s = record {
 }
 
 -- the nodes above and the node itself are those whose path is one that the node's begins with
-number_sym : (a b : ℕ) → (a == b) ≡ (b == a)
+pub number_sym : (a b : ℕ) → (a == b) ≡ (b == a)
 number_sym a b = elim (cases_eq a b) [ inl e ↦ eq-eqb a b e ∙ sym (eq-eqb b a (sym e)) | inr other ↦ ne_eqb a b other ∙ sym (ne_eqb b a (λ e. other (sym e))) ]
 
 step_sym : (a b : ℕ × ℕ) → same_step a b ≡ same_step b a
@@ -196,7 +196,7 @@ up_or_same (a ∷ p) (b ∷ q) =
     ap (λ (s : Bool). elim (if s then behind p q else None) [ None ↦ false | Some r ↦ is_empty r ] || elim (if same_step b a then behind q p else None) [ None ↦ false | Some r ↦ is_below r ]) (step_sym a b)
     ∙ up_step p q (same_step b a) (up_or_same p q)
 
-all_above : (e : Path) (way : Way) → above_by (λ r. true) e way ≡ above_by is_below e way
+pub all_above : (e : Path) (way : Way) → above_by (λ r. true) e way ≡ above_by is_below e way
 all_above e (here before after) = refl
 all_above e (inside before k outer after (here b a)) = refl
 all_above e (inside before k outer after (inside b l o a way)) = ap (λ (l : List (ℕ × Body)). (k, outer) ∷ l) (all_above e (inside b l o a way))

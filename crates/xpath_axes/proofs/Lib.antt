@@ -1,4 +1,7 @@
 pub mod Attributes
+pub mod AttributeAxes
+pub mod AttributeRows
+pub mod FromAttribute
 pub mod Inward
 pub mod Levels
 pub mod MayLemmas
@@ -15,3 +18,7 @@ pub mod Ways
 pub mod Inner
 pub mod Inside
 pub mod StringLemmas
+pub mod PathSteps
+pub mod PathLemmas
+pub mod OrderLemmas
+pub mod OrderedNodes

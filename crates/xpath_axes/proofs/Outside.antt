@@ -31,7 +31,7 @@ differ j k other = ne_eqb j k other
 same : (j : ℕ) → (j == j) ≡ true
 same j = eq-eqb j j refl
 
-all_of_three : (b : Bool) → (b && true && true) ≡ b
+pub all_of_three : (b : Bool) → (b && true && true) ≡ b
 all_of_three true = refl
 all_of_three false = refl
 

@@ -24,7 +24,7 @@ use Rattle.xpath_axes.proofs.Inward.{child_on, descendant_on}
 use Rattle.xpath_axes.proofs.Totals.{every_on}
 
 -- the climb is the same for both axes that go up
-same_climb : (source : Source) (left : ℕ) (n : NodeName) → outward axis.Ancestor source left n ≡ outward axis.AncestorOrSelf source left n
+pub same_climb : (source : Source) (left : ℕ) (n : NodeName) → outward axis.Ancestor source left n ≡ outward axis.AncestorOrSelf source left n
 same_climb source zero n = refl
 same_climb source (suc left) n = by (parent_at source n) (same_climb source left)
   where
@@ -37,32 +37,32 @@ module _ (allowed : Cell → Bool) where
   abbrev One : Cell → Type 0
   One cell = IsTrue (allowed cell)
 
-  first : (c : Cell) (rest : List Cell) → Within allowed (c ∷ rest) → IsTrue (allowed c)
+  pub first : (c : Cell) (rest : List Cell) → Within allowed (c ∷ rest) → IsTrue (allowed c)
   first c rest h = All-head One c rest h
 
-  rest_of : (c : Cell) (rest : List Cell) → Within allowed (c ∷ rest) → Within allowed rest
+  pub rest_of : (c : Cell) (rest : List Cell) → Within allowed (c ∷ rest) → Within allowed rest
   rest_of c rest h = All-tail One c rest h
 
-  back : (xs ys : List Cell) → Within allowed (xs ++ ys) → Within allowed ys
+  pub back : (xs ys : List Cell) → Within allowed (xs ++ ys) → Within allowed ys
   back [] ys h = h
   back (x ∷ xs) ys h = back xs ys (rest_of x (xs ++ ys) h)
 
-  front : (xs ys : List Cell) → Within allowed (xs ++ ys) → Within allowed xs
+  pub front : (xs ys : List Cell) → Within allowed (xs ++ ys) → Within allowed xs
   front [] ys h = All-nil One
   front (x ∷ xs) ys h = All-cons One x xs (first x (xs ++ ys) h) (front xs ys (rest_of x (xs ++ ys) h))
 
   -- a facet of each node, where it is among those of the row
-  only : (f : Facet) (nodes : List NodeName) → Within allowed (refs_cells (f ∷ []) (map ref.Node nodes)) → MayRead allowed f nodes
+  pub only : (f : Facet) (nodes : List NodeName) → Within allowed (refs_cells (f ∷ []) (map ref.Node nodes)) → MayRead allowed f nodes
   only f [] within = tt
   only f (n ∷ ns) within = (first (cell_at f n) (refs_cells (f ∷ []) (map ref.Node ns)) within, only f ns (rest_of (cell_at f n) (refs_cells (f ∷ []) (map ref.Node ns)) within))
 
-  two_first : (f g : Facet) (nodes : List NodeName) → Within allowed (refs_cells (f ∷ g ∷ []) (map ref.Node nodes)) → MayRead allowed f nodes
+  pub two_first : (f g : Facet) (nodes : List NodeName) → Within allowed (refs_cells (f ∷ g ∷ []) (map ref.Node nodes)) → MayRead allowed f nodes
   two_first f g [] within = tt
   two_first f g (n ∷ ns) within =
       let more : List Cell = refs_cells (f ∷ g ∷ []) (map ref.Node ns) in
       (first (cell_at f n) (cell_at g n ∷ more) within, two_first f g ns (rest_of (cell_at g n) more (rest_of (cell_at f n) (cell_at g n ∷ more) within)))
 
-  two_second : (f g : Facet) (nodes : List NodeName) → Within allowed (refs_cells (f ∷ g ∷ []) (map ref.Node nodes)) → MayRead allowed g nodes
+  pub two_second : (f g : Facet) (nodes : List NodeName) → Within allowed (refs_cells (f ∷ g ∷ []) (map ref.Node nodes)) → MayRead allowed g nodes
   two_second f g [] within = tt
   two_second f g (n ∷ ns) within =
       let more : List Cell = refs_cells (f ∷ g ∷ []) (map ref.Node ns) in
@@ -70,7 +70,7 @@ module _ (allowed : Cell → Bool) where
       (first (cell_at g n) more behind, two_second f g ns (rest_of (cell_at g n) more behind))
 
   -- the row of `following` and `preceding`: the first facet, and the two others
-  three_first : (f g h : Facet) (nodes : List NodeName) → Within allowed (refs_cells (f ∷ g ∷ h ∷ []) (map ref.Node nodes)) → MayRead allowed f nodes
+  pub three_first : (f g h : Facet) (nodes : List NodeName) → Within allowed (refs_cells (f ∷ g ∷ h ∷ []) (map ref.Node nodes)) → MayRead allowed f nodes
   three_first f g h [] within = tt
   three_first f g h (n ∷ ns) within =
       let more : List Cell = refs_cells (f ∷ g ∷ h ∷ []) (map ref.Node ns) in (
@@ -78,7 +78,7 @@ module _ (allowed : Cell → Bool) where
         three_first f g h ns (rest_of (cell_at h n) more (rest_of (cell_at g n) (cell_at h n ∷ more) (rest_of (cell_at f n) (cell_at g n ∷ cell_at h n ∷ more) within))),
       )
 
-  three_others : (f g h : Facet) (nodes : List NodeName) → Within allowed (refs_cells (f ∷ g ∷ h ∷ []) (map ref.Node nodes)) → MayRead allowed g nodes × MayRead allowed h nodes
+  pub three_others : (f g h : Facet) (nodes : List NodeName) → Within allowed (refs_cells (f ∷ g ∷ h ∷ []) (map ref.Node nodes)) → MayRead allowed g nodes × MayRead allowed h nodes
   three_others f g h [] within = (tt, tt)
   three_others f g h (n ∷ ns) within =
       let more : List Cell = refs_cells (f ∷ g ∷ h ∷ []) (map ref.Node ns) in
@@ -100,11 +100,11 @@ module _ (allowed : Cell → Bool) where
   climb_at source left None go may = tt
   climb_at source left (Some p) go may = (tt, go p may)
 
-  may_climb : (source : Source) (left : ℕ) (n : NodeName) → MayRead allowed facet.Up (n ∷ outward axis.Ancestor source left n) → MayWalk allowed axis.Ancestor source left n
+  pub may_climb : (source : Source) (left : ℕ) (n : NodeName) → MayRead allowed facet.Up (n ∷ outward axis.Ancestor source left n) → MayWalk allowed axis.Ancestor source left n
   may_climb source zero n may = tt
   may_climb source (suc left) n may = (may.0, climb_at source left (parent_at source n) (may_climb source left) may.1)
 
-  climb_or_self : (source : Source) (left : ℕ) (n : NodeName) → MayWalk allowed axis.Ancestor source left n → MayWalk allowed axis.AncestorOrSelf source left n
+  pub climb_or_self : (source : Source) (left : ℕ) (n : NodeName) → MayWalk allowed axis.Ancestor source left n → MayWalk allowed axis.AncestorOrSelf source left n
   climb_or_self source zero n may = tt
   climb_or_self source (suc left) n may = (may.0, by (parent_at source n) may.1 (climb_or_self source left))
     where
@@ -133,7 +133,7 @@ module _ (allowed : Cell → Bool) where
     go p ups kids.1 (may_back allowed facet.Kids (below source levels (after n (kids_at source p))) (outward axis.Following source left p) found),
   )
 
-  may_follow : (source : Source) (left : ℕ) (n : NodeName) → MayRead allowed facet.Up (n ∷ outward axis.Ancestor source left n) → MayRead allowed facet.Kids (outward axis.Ancestor source left n) →
+  pub may_follow : (source : Source) (left : ℕ) (n : NodeName) → MayRead allowed facet.Up (n ∷ outward axis.Ancestor source left n) → MayRead allowed facet.Kids (outward axis.Ancestor source left n) →
       MayRead allowed facet.Kids (outward axis.Following source left n) → MayWalk allowed axis.Following source left n
   may_follow source zero n ups kids found = tt
   may_follow source (suc left) n ups kids found = (ups.0, follow_from source left n (parent_at source n) (may_follow source left) ups.1 kids found)
@@ -150,7 +150,7 @@ module _ (allowed : Cell → Bool) where
     go p ups kids.1 (may_back allowed facet.Kids (step axis.Preceding source n p) (outward axis.Preceding source left p) found),
   )
 
-  may_precede : (source : Source) (left : ℕ) (n : NodeName) → MayRead allowed facet.Up (n ∷ outward axis.Ancestor source left n) → MayRead allowed facet.Kids (outward axis.Ancestor source left n) →
+  pub may_precede : (source : Source) (left : ℕ) (n : NodeName) → MayRead allowed facet.Up (n ∷ outward axis.Ancestor source left n) → MayRead allowed facet.Kids (outward axis.Ancestor source left n) →
       MayRead allowed facet.Kids (outward axis.Preceding source left n) → MayWalk allowed axis.Preceding source left n
   may_precede source zero n ups kids found = tt
   may_precede source (suc left) n ups kids found = (ups.0, precede_from source left n (parent_at source n) (may_precede source left) ups.1 kids found)

@@ -24,7 +24,7 @@ taken_one table along t source w there =
     ap (λ (o : Option Spot). elim o [ None ↦ [] | Some s ↦ taken table along t (node_name w) (Some (label_of s)) ]) there.1
     ∙ ap (λ (body : Body). if tested table along t (node_thing w.0 body) then ref.Node (node_name w) ∷ [] else []) there.2
 
-taken_took : (table : List NameParts) (along : Axis) (t : NodeTest) (source : Source) (ws : List (ℕ × Body)) → AreThere source ws → taken_along table along t source (node_names ws) ≡ took (tested table along t) ws
+pub taken_took : (table : List NameParts) (along : Axis) (t : NodeTest) (source : Source) (ws : List (ℕ × Body)) → AreThere source ws → taken_along table along t source (node_names ws) ≡ took (tested table along t) ws
 taken_took table along t source [] there = refl
 taken_took table along t source (w ∷ ws) there =
     let one = taken_one table along t source w there.0 in
@@ -36,7 +36,7 @@ pub taken_on : (table : List NameParts) (along : Axis) (t : NodeTest) (source : 
 taken_on table along t source n nodes at =
     ap (taken_along table along t source) at.names_are ∙ taken_took table along t source at.listed at.there ∙ sym (at.axis_is table t)
 
-took_all : (along : Axis) (ws : List (ℕ × Body)) → took (tested [] along test.AnyNode) ws ≡ map ref.Node (node_names ws)
+pub took_all : (along : Axis) (ws : List (ℕ × Body)) → took (tested [] along test.AnyNode) ws ≡ map ref.Node (node_names ws)
 took_all along [] = refl
 took_all along (w ∷ ws) = ap (λ (l : List NodeRef). ref.Node (node_name w) ∷ l) (took_all along ws)
 

@@ -57,6 +57,21 @@ MayGo allowed axis.PrecedingSibling source n = MayWalk allowed axis.PrecedingSib
 MayGo allowed axis.Following source n = MayWalk allowed axis.Following source levels n
 MayGo allowed axis.Preceding source n = MayWalk allowed axis.Preceding source levels n
 
+-- a walk along an axis from an attribute of an element n
+abbrev pub MayLeave : (Cell → Bool) → Axis → Source → NodeName → Type 0
+MayLeave allowed axis.Ancestor source n = MayWalk allowed axis.Ancestor source levels n
+MayLeave allowed axis.AncestorOrSelf source n = MayWalk allowed axis.AncestorOrSelf source levels n
+MayLeave allowed axis.Following source n = MayRead allowed facet.Kids (n ∷ below source levels (kids_at source n)) × MayWalk allowed axis.Following source levels n
+MayLeave allowed axis.Preceding source n = MayWalk allowed axis.Preceding source levels n
+MayLeave allowed axis.Parent source n = Unit {0}
+MayLeave allowed axis.Child source n = Unit {0}
+MayLeave allowed axis.Attribute source n = Unit {0}
+MayLeave allowed axis.Descendant source n = Unit {0}
+MayLeave allowed axis.Itself source n = Unit {0}
+MayLeave allowed axis.DescendantOrSelf source n = Unit {0}
+MayLeave allowed axis.FollowingSibling source n = Unit {0}
+MayLeave allowed axis.PrecedingSibling source n = Unit {0}
+
 -- an element's attributes, on the axis `attribute`
 abbrev pub MayOwn : (Cell → Bool) → Axis → NodeName → Type 0
 MayOwn allowed axis.Attribute n = MayRead allowed facet.Attrs (n ∷ [])

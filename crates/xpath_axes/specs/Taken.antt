@@ -48,3 +48,18 @@ attributes_on names axis.FollowingSibling test source n = []
 attributes_on names axis.PrecedingSibling test source n = []
 attributes_on names axis.Following test source n = []
 attributes_on names axis.Preceding test source n = []
+
+-- the attribute itself, on the axes that begin with where they go from
+abbrev pub self_on : List NameParts → Axis → NodeTest → NodeName → NameId → List NodeRef
+self_on names axis.Itself test n name = taken_attribute names axis.Itself test n name
+self_on names axis.DescendantOrSelf test n name = taken_attribute names axis.DescendantOrSelf test n name
+self_on names axis.AncestorOrSelf test n name = taken_attribute names axis.AncestorOrSelf test n name
+self_on names axis.Attribute test n name = []
+self_on names axis.Child test n name = []
+self_on names axis.Descendant test n name = []
+self_on names axis.Parent test n name = []
+self_on names axis.Ancestor test n name = []
+self_on names axis.FollowingSibling test n name = []
+self_on names axis.PrecedingSibling test n name = []
+self_on names axis.Following test n name = []
+self_on names axis.Preceding test n name = []

@@ -8,6 +8,7 @@ ghost use Rattle.serna_kinds.specs.Tape.{Agrees, SeenBefore, Within};
 ghost use Rattle.source_model.specs.Source.{Source};
 ghost use Rattle.source_model.specs.Cells.{Spot, spot_of, cell_of};
 ghost use Rattle.source_model.specs.Logged.{cell_at};
+ghost use Rattle.source_model.specs.Paths.{attribute_place};
 ghost use Rattle.xpath_axes.specs.Nodes.{label_of, children_of, characters_of, parent_at, attributes_at};
 
 use serna_kinds::{
@@ -149,4 +150,11 @@ pub fn attributes_of<'v, V: SourceView>(
         Some(CellValue::Text(_)) => Ok(&[]),
         None => Ok(&[]),
     }
+}
+
+/// The place of the first of these attributes that has the name of a number.
+pub(crate) fn place_of(name: NameId, pairs: &[AttrPair]) -> Option<usize>
+    ensures { result ≡ attribute_place name 0 pairs.now }
+{
+    pairs.iter().position(|pair| pair.name.0 == name.0)
 }

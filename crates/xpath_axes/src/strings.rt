@@ -18,11 +18,9 @@ ghost use Rattle.xpath_axes.specs.Strings.{string_cells, texts_at, kind_at, MayJ
 
 use crate::draft::Draft;
 use crate::nodes::{attributes_of, characters_of, children_of, label_of};
+use crate::walks::LEVELS;
 use serna_kinds::{AttrPair, Chars, Kind, NameId, NoMemory, NodeName, NodeRef, SourceView, Tape};
 use std::alloc::Global;
-
-/// The levels at which nodes stand at most: the document node, elements 120 deep, and what the innermost one has.
-const LEVELS: u32 = 122;
 
 /// The string-value of a node or attribute (XPath 1.0, section 5): of the document node and of an element all texts below it,
 /// joined in document order, of a text or comment its characters, of an attribute its value; no characters where it is not in the

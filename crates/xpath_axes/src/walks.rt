@@ -237,6 +237,25 @@ pub(crate) fn add_outward<V: SourceView>(
     }
 }
 
+/// Adds a node and then what an axis outward from it comes to, the nearest first.
+pub(crate) fn add_with_outward<V: SourceView>(
+    alloc: Global,
+    view: &V,
+    axis: Axis,
+    node: NodeName,
+    tape: &mut Tape,
+    out: &mut Items<NodeName>,
+) -> Result<(), NoMemory>
+    ensures before { SeenBefore tape.old.cells tape.new.cells (V.cells view.now) }
+    ensures value { OnOk result ((source : Source) → Agrees tape.new.cells (V.cells view.now) (cell_of source) → out.new ≡ out.old ++ node ∷ outward axis source levels node) }
+    ensures within { (allowed : Cell → Bool) (source : Source) → Agrees tape.new.cells (V.cells view.now) (cell_of source) → MayWalk allowed axis source levels node →
+        Within allowed tape.old.cells → Within allowed tape.new.cells }
+    ensures place { tape.new.place_read ≡ tape.old.place_read }
+{
+    out.push(node)?;
+    add_outward(alloc, view, axis, node, LEVELS, tape, out)
+}
+
 /// Adds all that is below a node, in document order.
 pub(crate) fn add_descendants<V: SourceView>(
     view: &V,

@@ -25,7 +25,7 @@ returns-in-Ancestor-clause-within g c allowed source agrees may old =
 
 pub returns-in-AncestorOrSelf-clause-within : goal.returns-in-AncestorOrSelf-clause-within
 returns-in-AncestorOrSelf-clause-within g c allowed source agrees may old =
-    c.add_with_ancestors.ensures.within allowed source agrees (subst (λ (a : Axis). MayGo allowed a source c.args.node) c.in-AncestorOrSelf.is may) old
+    c.add_with_outward.ensures.within allowed source agrees (subst (λ (a : Axis). MayGo allowed a source c.args.node) c.in-AncestorOrSelf.is may) old
 
 pub returns-in-FollowingSibling-clause-within : goal.returns-in-FollowingSibling-clause-within
 returns-in-FollowingSibling-clause-within g c allowed source agrees may old =
