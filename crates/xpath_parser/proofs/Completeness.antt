@@ -14,19 +14,20 @@ use Rattle.xpath_trees.specs.declared.expr.Function.{Function}
 use Rattle.xpath_tokens.specs.declared.symbol.Operator.{Operator}
 use Rattle.xpath_tokens.specs.declared.symbol.Symbol.{Symbol}
 use Rattle.xpath_tokens.specs.declared.symbol.Symbol.TheVariants as symbol
-use Rattle.xpath_parser.specs.declared.state.Level.{Level}
-use Rattle.xpath_parser.specs.declared.state.Level.TheVariants as level
-use Rattle.xpath_parser.specs.declared.state.Path.{Path}
-use Rattle.xpath_parser.specs.declared.state.Operand.{Operand}
-use Rattle.xpath_parser.specs.declared.state.Operand.TheVariants as operand
-use Rattle.xpath_parser.specs.declared.state.Chain.{Chain}
+use Rattle.xpath_grammar.specs.declared.operand.Level.{Level}
+use Rattle.xpath_grammar.specs.declared.operand.Level.TheVariants as level
+use Rattle.xpath_grammar.specs.declared.operand.Path.{Path}
+use Rattle.xpath_grammar.specs.declared.operand.Operand.{Operand}
+use Rattle.xpath_grammar.specs.declared.operand.Operand.TheVariants as operand
+use Rattle.xpath_grammar.specs.declared.operand.Chain.{Chain}
 use Rattle.xpath_parser.specs.declared.state.Pending.{Pending}
 use Rattle.xpath_parser.specs.declared.state.Pending.TheVariants as pending
 use Rattle.xpath_parser.specs.declared.state.Place.TheVariants as place
 use Rattle.xpath_parser.specs.declared.state.State.{State}
-use Rattle.xpath_parser.specs.Trees.{self_node, parent_node, any_descendant, level_of, rank, chain_tree, filtered, signs_past, signed}
-use Rattle.xpath_parser.specs.Grammar.{Part, part, further, chain, IsChain, signs, IsSigned, Stepped, IsAxis, IsTest, bracketed, trees, IsStep, slash, behind_slash, widened, steps_behind, AreSteps, IsRelative, IsAbsolute, arguments, IsCall, IsGroup, IsPrimary, IsFilter, IsPathFrom, IsPath, IsUnion, IsUnary, IsMultiplicative, IsAdditive, IsRelational, IsEquality, IsAnd, IsOr, IsExprIn, IsExpr}
-use Rattle.xpath_parser.specs.Machine.{at, here, from_root, with_step, path_tree, operand_tree, whole, path_behind, is_level, chained, longer, begun, closed, behind, after_step, after_operator, is_close, end_call, beginning, after}
+use Rattle.xpath_grammar.specs.Trees.{self_node, parent_node, any_descendant, level_of, rank, chain_tree, filtered, signs_past, signed}
+use Rattle.xpath_grammar.specs.Grammar.{Part, part, further, chain, IsChain, signs, IsSigned, Stepped, IsAxis, IsTest, bracketed, trees, IsStep, slash, behind_slash, widened, steps_behind, AreSteps, IsRelative, IsAbsolute, arguments, IsCall, IsGroup, IsPrimary, IsFilter, IsPathFrom, IsPath, IsUnion, IsUnary, IsMultiplicative, IsAdditive, IsRelational, IsEquality, IsAnd, IsOr, IsExprIn, IsExpr}
+use Rattle.xpath_grammar.specs.Parts.{here, from_root, with_step, path_tree, operand_tree, whole, path_behind, chained, longer, begun}
+use Rattle.xpath_parser.specs.Machine.{at, is_level, closed, behind, after_step, after_operator, is_close, end_call, beginning, after}
 use Rattle.xpath_parser.proofs.Outcomes.{outcome, rank-some, Follows, follows_more, Fits, fits_more, fits_closed, fits_operator, same_tree, chain_ends, sign_ends}
 use Rattle.xpath_tokens.proofs.Comparing.{not_less, differs}
 

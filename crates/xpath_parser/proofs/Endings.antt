@@ -4,22 +4,23 @@ use Rattle.xpath_trees.specs.declared.expr.Expr.{Expr}
 use Rattle.xpath_trees.specs.declared.expr.Expr.TheVariants as expr
 use Rattle.xpath_tokens.specs.declared.symbol.Symbol.{Symbol}
 use Rattle.xpath_tokens.specs.declared.symbol.Symbol.TheVariants as symbol
-use Rattle.xpath_parser.specs.declared.state.Operand.{Operand}
-use Rattle.xpath_parser.specs.declared.state.Operand.TheVariants as operand
+use Rattle.xpath_grammar.specs.declared.operand.Operand.{Operand}
+use Rattle.xpath_grammar.specs.declared.operand.Operand.TheVariants as operand
 use Rattle.xpath_parser.specs.declared.state.Pending.{Pending}
 use Rattle.xpath_parser.specs.declared.state.Pending.TheVariants as pending
 use Rattle.xpath_parser.specs.declared.state.Place.{Place}
 use Rattle.xpath_parser.specs.declared.state.Place.TheVariants as place
 use Rattle.xpath_parser.specs.declared.state.State.{State}
-use Rattle.xpath_parser.specs.Trees.{self_node, level_of}
-use Rattle.xpath_parser.specs.Machine.{at, here, with_step, operand_tree, whole, chained, behind, beginning, after, finish, run}
-use Rattle.xpath_parser.specs.Grammar.{IsExpr}
-use Rattle.xpath_parser.specs.Stops.{BeginsBy}
+use Rattle.xpath_grammar.specs.Trees.{self_node, level_of}
+use Rattle.xpath_grammar.specs.Parts.{here, with_step, operand_tree, whole, chained}
+use Rattle.xpath_parser.specs.Machine.{at, behind, beginning, after, finish, run}
+use Rattle.xpath_grammar.specs.Grammar.{IsExpr}
+use Rattle.xpath_machine.specs.Stops.{BeginsBy}
 use Rattle.serna_kinds.specs.declared.expressions.NodeTest.TheVariants as test
 use Rattle.xpath_parser.proofs.Outcomes.{outcome, rank-some, Follows, chain_ends, sign_ends}
 use Rattle.xpath_parser.proofs.Completeness.{reads_expr}
 use Rattle.xpath_parser.proofs.States.{Front, Has}
-use Rattle.xpath_parser.specs.Advance.{ReadsBy}
+use Rattle.xpath_machine.specs.Advance.{ReadsBy}
 use Rattle.xpath_parser.proofs.Steps.{Moved, has_more, has_begun, is_expr}
 
 -- the brackets that are still to be closed

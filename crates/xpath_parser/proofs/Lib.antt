@@ -4,4 +4,3 @@ pub mod Outcomes
 pub mod Soundness
 pub mod States
 pub mod Steps
-pub mod Stopping

@@ -6,16 +6,17 @@ use Rattle.xpath_trees.specs.declared.expr.Signs.{Signs}
 use Rattle.xpath_tokens.specs.declared.symbol.Operator.{Operator}
 use Rattle.xpath_tokens.specs.declared.symbol.Symbol.{Symbol}
 use Rattle.xpath_tokens.specs.declared.symbol.Symbol.TheVariants as symbol
-use Rattle.xpath_parser.specs.declared.state.Level.{Level}
-use Rattle.xpath_parser.specs.declared.state.Level.TheVariants as level
-use Rattle.xpath_parser.specs.declared.state.Operand.{Operand}
-use Rattle.xpath_parser.specs.declared.state.Chain.{Chain}
+use Rattle.xpath_grammar.specs.declared.operand.Level.{Level}
+use Rattle.xpath_grammar.specs.declared.operand.Level.TheVariants as level
+use Rattle.xpath_grammar.specs.declared.operand.Operand.{Operand}
+use Rattle.xpath_grammar.specs.declared.operand.Chain.{Chain}
 use Rattle.xpath_parser.specs.declared.state.Pending.{Pending}
 use Rattle.xpath_parser.specs.declared.state.Pending.TheVariants as pending
 use Rattle.xpath_parser.specs.declared.state.State.{State}
 use Rattle.xpath_tokens.proofs.Comparing.{less, not_less, differs}
-use Rattle.xpath_parser.specs.Trees.{level_of, rank}
-use Rattle.xpath_parser.specs.Machine.{behind, whole, operand_tree, chained, begun, closed, with_operator, longer, after_operator, end_group, end_predicate, next_argument, finished_in, after, finish}
+use Rattle.xpath_grammar.specs.Trees.{level_of, rank}
+use Rattle.xpath_grammar.specs.Parts.{whole, operand_tree, chained, begun, longer}
+use Rattle.xpath_parser.specs.Machine.{behind, closed, with_operator, after_operator, end_group, end_predicate, next_argument, finished_in, after, finish}
 
 -- the tree that tokens lead to
 abbrev pub outcome : Option State → List Symbol → Option Expr

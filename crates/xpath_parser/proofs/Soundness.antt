@@ -9,13 +9,14 @@ use Rattle.xpath_trees.specs.declared.expr.Expr.TheVariants as expr
 use Rattle.xpath_tokens.specs.declared.symbol.Operator.{Operator}
 use Rattle.xpath_tokens.specs.declared.symbol.Symbol.{Symbol}
 use Rattle.xpath_tokens.specs.declared.symbol.Symbol.TheVariants as symbol
-use Rattle.xpath_parser.specs.declared.state.Level.{Level}
-use Rattle.xpath_parser.specs.declared.state.Level.TheVariants as level
-use Rattle.xpath_parser.specs.declared.state.Chain.{Chain}
+use Rattle.xpath_grammar.specs.declared.operand.Level.{Level}
+use Rattle.xpath_grammar.specs.declared.operand.Level.TheVariants as level
+use Rattle.xpath_grammar.specs.declared.operand.Chain.{Chain}
 use Rattle.xpath_parser.specs.declared.state.Pending.{Pending}
-use Rattle.xpath_parser.specs.Trees.{level_of, rank, chain_tree, signs_past, signed}
-use Rattle.xpath_parser.specs.Grammar.{Part, part, further, chain, IsChain, signs, IsSigned, IsPath}
-use Rattle.xpath_parser.specs.Machine.{is_level, chained}
+use Rattle.xpath_grammar.specs.Trees.{level_of, rank, chain_tree, signs_past, signed}
+use Rattle.xpath_grammar.specs.Grammar.{Part, part, further, chain, IsChain, signs, IsSigned, IsPath}
+use Rattle.xpath_grammar.specs.Parts.{chained}
+use Rattle.xpath_parser.specs.Machine.{is_level}
 use Rattle.xpath_parser.proofs.Outcomes.{Fits}
 
 -- Tiers: how loosely a part binds, from paths up to whole expressions

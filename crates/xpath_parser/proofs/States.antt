@@ -11,17 +11,18 @@ use Rattle.xpath_trees.specs.declared.expr.Step.{Step}
 use Rattle.xpath_trees.specs.declared.expr.Function.{Function}
 use Rattle.xpath_tokens.specs.declared.symbol.Symbol.{Symbol}
 use Rattle.xpath_tokens.specs.declared.symbol.Symbol.TheVariants as symbol
-use Rattle.xpath_parser.specs.declared.state.Path.{Path}
-use Rattle.xpath_parser.specs.declared.state.Operand.{Operand}
-use Rattle.xpath_parser.specs.declared.state.Operand.TheVariants as operand
+use Rattle.xpath_grammar.specs.declared.operand.Path.{Path}
+use Rattle.xpath_grammar.specs.declared.operand.Operand.{Operand}
+use Rattle.xpath_grammar.specs.declared.operand.Operand.TheVariants as operand
 use Rattle.xpath_parser.specs.declared.state.Pending.{Pending}
 use Rattle.xpath_parser.specs.declared.state.Pending.TheVariants as pending
 use Rattle.xpath_parser.specs.declared.state.Place.{Place}
 use Rattle.xpath_parser.specs.declared.state.Place.TheVariants as place
 use Rattle.xpath_parser.specs.declared.state.State.{State}
-use Rattle.xpath_parser.specs.Trees.{step_of, any_descendant, level_of, rank, filtered}
-use Rattle.xpath_parser.specs.Grammar.{Part, part, Stepped, stepped, IsAxis, IsTest, bracketed, trees, IsStep, slash, behind_slash, widened, steps_behind, AreSteps, IsPrimary, IsFilter, IsPath, IsExprIn}
-use Rattle.xpath_parser.specs.Machine.{here, from_root, with_step, path_tree, operand_tree, chained, closed}
+use Rattle.xpath_grammar.specs.Trees.{step_of, any_descendant, level_of, rank, filtered}
+use Rattle.xpath_grammar.specs.Grammar.{Part, part, Stepped, stepped, IsAxis, IsTest, bracketed, trees, IsStep, slash, behind_slash, widened, steps_behind, AreSteps, IsPrimary, IsFilter, IsPath, IsExprIn}
+use Rattle.xpath_grammar.specs.Parts.{here, from_root, with_step, path_tree, operand_tree, chained}
+use Rattle.xpath_parser.specs.Machine.{closed}
 use Rattle.xpath_parser.proofs.Outcomes.{Fits, rank-some}
 use Rattle.xpath_parser.proofs.Soundness.{tier, lift, tier_of, rank-tier, all-push, OpenChain, OpenSign, chain_part, sign_part}
 

@@ -16,20 +16,21 @@ use Rattle.xpath_tokens.specs.declared.symbol.Operator.{Operator}
 use Rattle.xpath_tokens.specs.declared.symbol.Operator.TheVariants as operator
 use Rattle.xpath_tokens.specs.declared.symbol.Symbol.{Symbol}
 use Rattle.xpath_tokens.specs.declared.symbol.Symbol.TheVariants as symbol
-use Rattle.xpath_parser.specs.declared.state.Level.{Level}
-use Rattle.xpath_parser.specs.declared.state.Level.TheVariants as level
-use Rattle.xpath_parser.specs.declared.state.Path.{Path}
-use Rattle.xpath_parser.specs.declared.state.Operand.{Operand}
-use Rattle.xpath_parser.specs.declared.state.Operand.TheVariants as operand
-use Rattle.xpath_parser.specs.declared.state.Chain.{Chain}
+use Rattle.xpath_grammar.specs.declared.operand.Level.{Level}
+use Rattle.xpath_grammar.specs.declared.operand.Level.TheVariants as level
+use Rattle.xpath_grammar.specs.declared.operand.Path.{Path}
+use Rattle.xpath_grammar.specs.declared.operand.Operand.{Operand}
+use Rattle.xpath_grammar.specs.declared.operand.Operand.TheVariants as operand
+use Rattle.xpath_grammar.specs.declared.operand.Chain.{Chain}
 use Rattle.xpath_parser.specs.declared.state.Pending.{Pending}
 use Rattle.xpath_parser.specs.declared.state.Pending.TheVariants as pending
 use Rattle.xpath_parser.specs.declared.state.Place.{Place}
 use Rattle.xpath_parser.specs.declared.state.Place.TheVariants as place
 use Rattle.xpath_parser.specs.declared.state.State.{State}
-use Rattle.xpath_parser.specs.Trees.{step_of, self_node, parent_node, any_descendant, level_of, rank, filtered, once_more}
-use Rattle.xpath_parser.specs.Grammar.{Part, part, further, signs, stepped, bracketed, trees, slash, arguments, IsPrimary, IsExprIn, IsExpr}
-use Rattle.xpath_parser.specs.Machine.{at, here, from_root, with_step, operand_tree, whole, path_behind, is_level, longer, begun, closed, with_operator, after_step, after_axis, after_sign, after_first, after_argument, end_call, end_group, end_predicate, next_argument, begin_predicate, after_root, after_operand, after_in, beginning, after, finish_in, finished_in}
+use Rattle.xpath_grammar.specs.Trees.{step_of, self_node, parent_node, any_descendant, level_of, rank, filtered, once_more}
+use Rattle.xpath_grammar.specs.Grammar.{Part, part, further, signs, stepped, bracketed, trees, slash, arguments, IsPrimary, IsExprIn, IsExpr}
+use Rattle.xpath_grammar.specs.Parts.{here, from_root, with_step, operand_tree, whole, path_behind, longer, begun}
+use Rattle.xpath_parser.specs.Machine.{at, is_level, closed, with_operator, after_step, after_axis, after_sign, after_first, after_argument, end_call, end_group, end_predicate, next_argument, begin_predicate, after_root, after_operand, after_in, beginning, after, finish_in, finished_in}
 use Rattle.xpath_parser.proofs.Outcomes.{outcome, Fits}
 use Rattle.xpath_parser.proofs.Soundness.{tier, lift, tier_of, rank-tier, same_level, all-push, others_of, further-push}
 use Rattle.xpath_parser.proofs.States.{wide, wants_here, wants_root, wants_descendants, wants_behind, wants_behind_filter, Wants, IsOperand, step_path, filter_part, ended, Front, AtPlace, HasIn, Has, PutTogether, ends}

@@ -4,82 +4,34 @@ use Rattle.std.specs.Option.{option_map}
 use Rattle.serna_kinds.specs.declared.expressions.Axis.{Axis}
 use Rattle.serna_kinds.specs.declared.expressions.Axis.TheVariants as axis
 use Rattle.xpath_trees.specs.declared.expr.ArithOp.TheVariants as arith
-use Rattle.xpath_trees.specs.declared.expr.PathStart.TheVariants as start
 use Rattle.xpath_trees.specs.declared.expr.Expr.{Expr}
 use Rattle.xpath_trees.specs.declared.expr.Expr.TheVariants as expr
 use Rattle.xpath_trees.specs.declared.expr.Signs.TheVariants as sign
-use Rattle.xpath_trees.specs.declared.expr.Step.{Step}
 use Rattle.xpath_tokens.specs.declared.symbol.Operator.{Operator}
 use Rattle.xpath_tokens.specs.declared.symbol.Operator.TheVariants as operator
 use Rattle.xpath_tokens.specs.declared.symbol.Symbol.{Symbol}
 use Rattle.xpath_tokens.specs.declared.symbol.Symbol.TheVariants as symbol
-use Rattle.xpath_parser.specs.declared.state.Level.{Level}
-use Rattle.xpath_parser.specs.declared.state.Level.TheVariants as level
-use Rattle.xpath_parser.specs.declared.state.Path.{Path}
-use Rattle.xpath_parser.specs.declared.state.Operand.{Operand}
-use Rattle.xpath_parser.specs.declared.state.Operand.TheVariants as operand
-use Rattle.xpath_parser.specs.declared.state.Chain.{Chain}
+use Rattle.xpath_grammar.specs.declared.operand.Level.{Level}
+use Rattle.xpath_grammar.specs.declared.operand.Level.TheVariants as level
+use Rattle.xpath_grammar.specs.declared.operand.Path.{Path}
+use Rattle.xpath_grammar.specs.declared.operand.Operand.{Operand}
+use Rattle.xpath_grammar.specs.declared.operand.Operand.TheVariants as operand
+use Rattle.xpath_grammar.specs.declared.operand.Chain.{Chain}
 use Rattle.xpath_parser.specs.declared.state.Pending.{Pending}
 use Rattle.xpath_parser.specs.declared.state.Pending.TheVariants as pending
 use Rattle.xpath_parser.specs.declared.state.Place.{Place}
 use Rattle.xpath_parser.specs.declared.state.Place.TheVariants as place
 use Rattle.xpath_parser.specs.declared.state.State.{State}
-use Rattle.xpath_parser.specs.Trees.{step_of, self_node, parent_node, any_descendant, level_of, rank, chain_tree, filtered, once_more}
+use Rattle.xpath_grammar.specs.Trees.{self_node, parent_node, any_descendant, level_of, rank, once_more}
+use Rattle.xpath_grammar.specs.Parts.{here, from_root, with_step, operand_tree, whole, path_behind, chained, longer, begun}
 
 abbrev pub at : Place → List Pending → State
 at p s = record { place = p; stack = s }
-
--- Paths
-
--- a path without steps from the context node, and one from the root
-abbrev pub here : Path
-here = record { start = start.Context; steps = [] }
-
-abbrev pub from_root : Path
-from_root = record { start = start.Root; steps = [] }
-
-abbrev pub with_step : Path → Step → Path
-with_step p step = record { start = p.start; steps = p.steps ++ step ∷ [] }
-
--- Operands
-
-abbrev pub path_tree : Path → Expr
-path_tree p = expr.Path p.start p.steps
-
--- the tree of an operand that ends here
-abbrev pub operand_tree : Operand → Expr
-operand_tree operand.Root = expr.Path start.Root []
-operand_tree (operand.Abbreviated p) = path_tree p
-operand_tree (operand.Step p a t predicates) = path_tree (with_step p (step_of a t predicates))
-operand_tree (operand.Primary e predicates) = filtered e predicates
-
--- an operand that is whole
-abbrev pub whole : Expr → Operand
-whole e = operand.Primary e []
-
--- where steps go on behind an operand
-abbrev pub path_behind : Operand → Option Path
-path_behind operand.Root = None
-path_behind (operand.Abbreviated p) = Some p
-path_behind (operand.Step p a t predicates) = Some (with_step p (step_of a t predicates))
-path_behind (operand.Primary e predicates) = Some (record { start = start.From (filtered e predicates); steps = [] })
 
 -- Chains
 
 abbrev pub is_level : Level → Level → Bool
 is_level a b = rank a == rank b
-
--- a chain with its last operand
-abbrev pub chained : Chain → Expr → Expr
-chained c e = chain_tree (level_of c.last) c.first (c.others ++ (c.last, e) ∷ [])
-
--- a chain with one more operand and the operator behind it
-abbrev pub longer : Chain → Expr → Operator → Chain
-longer c e op = record { first = c.first; others = c.others ++ (c.last, e) ∷ []; last = op }
-
--- a chain that begins with this operand and operator
-abbrev pub begun : Expr → Operator → Chain
-begun e op = record { first = e; others = []; last = op }
 
 -- an operand and what waits for it, when all that binds tighter than this is put together
 abbrev pub closed : ℕ → Expr → List Pending → Expr × List Pending

@@ -1,11 +1,15 @@
-//! Reads lists of tokens by a machine, and the machine that reads expressions (XPath 1.0, section 3).
+//! The machine that reads expressions from lists of tokens (XPath 1.0, section 3).
 #![tactic(auto)]
 
-mod machine;
-pub mod parse;
+mod closing;
+mod ending;
 mod state;
 pub mod step;
+mod wanted;
 
-pub use machine::{level_of, rank, step_of};
+pub use closing::put_together;
+pub use ending::end_predicate;
 pub use serna_kinds::NoMemory;
-pub use state::{Chain, Level, Operand, Path, Pending, Place, State};
+pub use state::{Pending, Place, State};
+pub use wanted::{is_close, is_colons, is_open};
+pub use xpath_grammar::{Chain, Level, Operand, Path};

@@ -2,8 +2,8 @@
 use Rattle.std.proofs.Common.{◌≡◌, ◌<◌, ◌≤◌, ◌+◌, ℕ, zero, suc, List, [], ◌∷◌, ◌++◌, length, take, drop, Option, Some, None, sym, refl, ap, ◌∙◌, subst, arith, inl, inr}
 use Rattle.std.proofs.lemmas.List.{take_all, take-append-drop, drop-drop}
 use Rattle.xpath_tokens.specs.declared.symbol.Symbol.{Symbol}
-use Rattle.xpath_parser.specs.Advance.{Refuses, Advances, ReadsBy}
-use Rattle.xpath_parser.specs.Stops.{next_depth, IsShallowFrom, IsShallow, HasTreeBy, CanGoOnBy, IsStopBy}
+use Rattle.xpath_machine.specs.Advance.{Refuses, Advances, ReadsBy}
+use Rattle.xpath_machine.specs.Stops.{next_depth, IsShallowFrom, IsShallow, HasTreeBy, CanGoOnBy, IsStopBy}
 
 -- how many brackets are open behind these tokens
 abbrev pub depth_after : ℕ → List Symbol → ℕ

@@ -16,8 +16,8 @@ use Rattle.xpath_trees.specs.declared.expr.Signs.TheVariants as sign
 use Rattle.xpath_trees.specs.declared.expr.Step.{Step, roll-Step}
 use Rattle.xpath_tokens.specs.declared.symbol.Operator.{Operator}
 use Rattle.xpath_tokens.specs.declared.symbol.Operator.TheVariants as operator
-use Rattle.xpath_parser.specs.declared.state.Level.{Level}
-use Rattle.xpath_parser.specs.declared.state.Level.TheVariants as level
+use Rattle.xpath_grammar.specs.declared.operand.Level.{Level}
+use Rattle.xpath_grammar.specs.declared.operand.Level.TheVariants as level
 
 -- Steps
 

@@ -2,11 +2,11 @@
 
 ghost use Rattle.std.specs.Prelude.{◌≡◌, ◌++◌, IfOk, OnOk};
 ghost use Rattle.std.specs.List.{flat_map};
-ghost use Rattle.xpath_parser.specs.Trees.{step_of, any_descendant, compare_level, arith_level, level_of, rank, compared, computed, operands, chain_tree, filtered, once_more};
-ghost use Rattle.xpath_parser.specs.Machine.{with_step, path_tree, operand_tree, whole, path_behind, chained, longer, begun, here, from_root};
+ghost use Rattle.xpath_grammar.specs.Trees.{step_of, any_descendant, compare_level, arith_level, level_of, rank, compared, computed, operands, chain_tree, filtered, once_more};
+ghost use Rattle.xpath_grammar.specs.Parts.{with_step, path_tree, operand_tree, whole, path_behind, chained, longer, begun, here, from_root};
 
 use crate::NoMemory;
-use crate::state::{Chain, Level, Operand, Path};
+use crate::operand::{Chain, Level, Operand, Path};
 use serna_kinds::{Axis, CompareOp, NodeTest};
 use sqlite_items::{Boxed, Items};
 use std::alloc::Global;

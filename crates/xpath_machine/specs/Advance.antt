@@ -1,7 +1,7 @@
 -- One step of a reader with the brackets counted, and what makes a machine a reader of a grammar.
 use Rattle.std.specs.Prelude.{◌≡◌, ◌≤◌, ◌<◌, ◌⊎◌, ℕ, List, [], ◌∷◌, ◌++◌, Option, Some, None}
 use Rattle.xpath_tokens.specs.declared.symbol.Symbol.{Symbol}
-use Rattle.xpath_parser.specs.Stops.{next_depth, BeginsBy}
+use Rattle.xpath_machine.specs.Stops.{next_depth, BeginsBy}
 
 -- the token opens a bracket past the limit, or leads nowhere
 abbrev pub Refuses : {S : Type 0} → (S → Symbol → Option S) → S → ℕ → Symbol → Type 0

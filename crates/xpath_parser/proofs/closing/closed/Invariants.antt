@@ -1,6 +1,6 @@
 use Rattle.std.proofs.Common.{◌≡◌, length}
 use Rattle.xpath_parser.specs.Machine.{closed}
-use Rattle.xpath_parser.proofs.step.closed.Given as goal
+use Rattle.xpath_parser.proofs.closing.closed.Given as goal
 
 abbrev pub invariant-loop-top : goal.invariant-loop-top
 invariant-loop-top l = closed l.least l.tree l.stack ≡ closed l.least l.fn.tree l.fn.stack

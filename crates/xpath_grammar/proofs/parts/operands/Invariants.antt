@@ -1,8 +1,8 @@
 use Rattle.std.proofs.Common.{◌≡◌, ◌++◌, length, map}
 use Rattle.xpath_tokens.specs.declared.symbol.Operator.{Operator}
 use Rattle.xpath_trees.specs.declared.expr.Expr.{Expr}
-use Rattle.xpath_parser.specs.Trees.{operands}
-use Rattle.xpath_parser.proofs.machine.operands.Given as goal
+use Rattle.xpath_grammar.specs.Trees.{operands}
+use Rattle.xpath_grammar.proofs.parts.operands.Given as goal
 
 abbrev pub invariant-loop-operand : goal.invariant-loop-operand
 invariant-loop-operand l = l.all ++ map (λ (other : Operator × Expr). other.1) l.others ≡ operands l.fn.first l.fn.others

@@ -1,7 +1,7 @@
 use Rattle.std.proofs.Common.{subst, arith}
-use Rattle.xpath_parser.specs.Advance.{Refuses, Advances, IsAdvanced}
-use Rattle.xpath_parser.proofs.Stopping.{stops_refused, stands_on, stands_first, reads_all, ends_early}
-use Rattle.xpath_parser.proofs.parse.parse.Goals as goal
+use Rattle.xpath_machine.specs.Advance.{Refuses, Advances, IsAdvanced}
+use Rattle.xpath_machine.proofs.Stopping.{stops_refused, stands_on, stands_first, reads_all, ends_early}
+use Rattle.xpath_machine.proofs.reading.parse.Goals as goal
 
 pub loop-symbol-init : goal.loop-symbol-init
 loop-symbol-init g c = record {

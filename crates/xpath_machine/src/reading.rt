@@ -2,8 +2,8 @@
 
 ghost use Rattle.std.specs.Prelude.{◌≡◌, ◌≤◌, List, [], Option, Some, IfOk};
 ghost use Rattle.xpath_tokens.specs.declared.symbol.Symbol.{Symbol};
-ghost use Rattle.xpath_parser.specs.Stops.{next_depth, IsParsedBy};
-ghost use Rattle.xpath_parser.specs.Advance.{IsAdvanced, ReadsBy};
+ghost use Rattle.xpath_machine.specs.Stops.{next_depth, IsParsedBy};
+ghost use Rattle.xpath_machine.specs.Advance.{IsAdvanced, ReadsBy};
 
 use crate::NoMemory;
 use std::alloc::Global;

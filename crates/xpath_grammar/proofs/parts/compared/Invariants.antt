@@ -2,8 +2,8 @@ use Rattle.std.proofs.Common.{◌≡◌, ◌++◌, length}
 use Rattle.std.specs.List.{flat_map}
 use Rattle.xpath_tokens.specs.declared.symbol.Operator.{Operator}
 use Rattle.xpath_trees.specs.declared.expr.Expr.{Expr}
-use Rattle.xpath_parser.specs.Trees.{compared}
-use Rattle.xpath_parser.proofs.machine.compared.Given as goal
+use Rattle.xpath_grammar.specs.Trees.{compared}
+use Rattle.xpath_grammar.proofs.parts.compared.Given as goal
 
 abbrev pub invariant-loop-op : goal.invariant-loop-op
 invariant-loop-op l =

@@ -1,6 +1,6 @@
 use Rattle.std.proofs.Common.{◌≤◌, length}
-use Rattle.xpath_parser.proofs.Stopping.{Standing}
-use Rattle.xpath_parser.proofs.parse.parse.Given as goal
+use Rattle.xpath_machine.proofs.Stopping.{Standing}
+use Rattle.xpath_machine.proofs.reading.parse.Given as goal
 
 abbrev pub invariant-loop-symbol : goal.invariant-loop-symbol
 invariant-loop-symbol g l = record {
