@@ -11,7 +11,7 @@ use Rattle.xpath_syntax.specs.declared.reader.ExprFault.{ExprFault}
 use Rattle.xpath_syntax.specs.declared.reader.ExprFault.TheVariants as fault
 use Rattle.xpath_tokens.specs.Tokens.{IsCut}
 use Rattle.xpath_tokens.specs.Symbols.{symbols_at}
-use Rattle.xpath_parser.specs.Stops.{next_depth, IsShallowFrom, IsShallow, CanGoOnBy, IsStopBy}
+use Rattle.xpath_machine.specs.Stops.{next_depth, IsShallowFrom, IsShallow, CanGoOnBy, IsStopBy}
 use Rattle.xpath_syntax.specs.Reading.{HasReadingBy, HasFaultBy, IsReadBy}
 
 pub cut_front : (text : List ℕ) (k : ℕ) (tokens : List Token) → AllByRecursion (IsCut text) tokens → AllByRecursion (IsCut text) (take k tokens)

@@ -32,10 +32,10 @@ use Rattle.xpath_tokens.specs.Symbols.{inside, without_dollar, number_value, nod
 use Rattle.xpath_tokens.specs.Faults.{wrong_arity}
 use Rattle.xpath_tokens.specs.Tokens.{tokens_of}
 use Rattle.xpath_tokens.proofs.WordLemmas.{number_low}
-use Rattle.xpath_parser.specs.declared.state.Level.{Level}
-use Rattle.xpath_parser.specs.declared.state.Level.TheVariants as level
-use Rattle.xpath_parser.specs.Trees.{level_of, rank, compared, computed, chain_tree, signs_past, signed}
-use Rattle.xpath_parser.specs.Grammar.{Part, trees}
+use Rattle.xpath_grammar.specs.declared.operand.Level.{Level}
+use Rattle.xpath_grammar.specs.declared.operand.Level.TheVariants as level
+use Rattle.xpath_grammar.specs.Trees.{level_of, rank, compared, computed, chain_tree, signs_past, signed}
+use Rattle.xpath_grammar.specs.Grammar.{Part, trees}
 use Rattle.xpath_syntax.specs.Reading.{IsReading}
 use Rattle.xpath_syntax.proofs.Levels.{AreAt, compare_in, arith_in}
 use Rattle.xpath_syntax.proofs.Arity.{AreGiven, all_given}

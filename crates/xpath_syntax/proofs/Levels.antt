@@ -7,9 +7,9 @@ use Rattle.xpath_trees.specs.declared.expr.ArithOp.{ArithOp}
 use Rattle.xpath_trees.specs.declared.expr.ArithOp.TheVariants as arith_op
 use Rattle.xpath_tokens.specs.declared.symbol.Operator.{Operator}
 use Rattle.xpath_tokens.specs.declared.symbol.Operator.TheVariants as operator
-use Rattle.xpath_parser.specs.declared.state.Level.{Level}
-use Rattle.xpath_parser.specs.Trees.{level_of, compare_level, arith_level, rank}
-use Rattle.xpath_parser.specs.Grammar.{Part}
+use Rattle.xpath_grammar.specs.declared.operand.Level.{Level}
+use Rattle.xpath_grammar.specs.Trees.{level_of, compare_level, arith_level, rank}
+use Rattle.xpath_grammar.specs.Grammar.{Part}
 
 abbrev pub AreAt : Level → List (Operator × Part) → Type 0
 AreAt l = AllByRecursion (λ x. level_of x.0 ≡ l)

@@ -8,3 +8,5 @@ pub mod Balance
 pub mod Arity
 pub mod Walks
 pub mod FormedTrees
+pub mod Depths
+pub mod Shallows

@@ -5,12 +5,12 @@ use Rattle.xpath_trees.specs.declared.expr.Expr.{Expr}
 use Rattle.xpath_trees.specs.declared.expr.Expr.TheVariants as expr
 use Rattle.xpath_trees.specs.declared.expr.PathStart.TheVariants as start
 use Rattle.xpath_trees.specs.declared.pattern.Pattern.{Pattern}
-use Rattle.xpath_parser.specs.declared.state.Level.TheVariants as level
+use Rattle.xpath_grammar.specs.declared.operand.Level.TheVariants as level
 use Rattle.xpath_tokens.specs.declared.symbol.Operator.{Operator}
 use Rattle.xpath_tokens.specs.declared.symbol.Operator.TheVariants as operator
 use Rattle.xpath_tokens.specs.declared.symbol.Symbol.{Symbol}
-use Rattle.xpath_parser.specs.Trees.{level_of}
-use Rattle.xpath_parser.specs.Grammar.{Part, part, further, chain, Stepped, slash, behind_slash, widened, AreSteps, IsPath, IsUnion, IsExpr}
+use Rattle.xpath_grammar.specs.Trees.{level_of}
+use Rattle.xpath_grammar.specs.Grammar.{Part, part, further, chain, Stepped, slash, behind_slash, widened, AreSteps, IsPath, IsUnion, IsExpr}
 use Rattle.xpath_parser.specs.Machine.{beginning}
 use Rattle.xpath_syntax.specs.Patterns.{IsPredicate, IsStepPattern, PathPart, IsPathPattern, bar, behind_bar, IsPattern, path_of, expression_of}
 use Rattle.xpath_parser.proofs.Completeness.{Reads, reads_chain, reads_path, reads_expr_in}

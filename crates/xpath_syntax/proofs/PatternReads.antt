@@ -19,16 +19,17 @@ use Rattle.xpath_parser.specs.declared.state.Place.TheVariants as inner_place
 use Rattle.xpath_parser.specs.declared.state.State.{State}
 use Rattle.xpath_tokens.specs.declared.symbol.Symbol.{Symbol}
 use Rattle.xpath_tokens.specs.declared.symbol.Symbol.TheVariants as symbol
-use Rattle.xpath_parser.specs.Trees.{any_descendant}
-use Rattle.xpath_parser.specs.Grammar.{Part, Stepped, IsAxis, IsTest, bracketed, trees, slash, behind_slash, widened, steps_behind}
-use Rattle.xpath_parser.specs.Machine.{operand_tree, closed, finished_in, finish_in, end_predicate, after_in, beginning, after}
+use Rattle.xpath_grammar.specs.Trees.{any_descendant}
+use Rattle.xpath_grammar.specs.Grammar.{Part, Stepped, IsAxis, IsTest, bracketed, trees, slash, behind_slash, widened, steps_behind}
+use Rattle.xpath_grammar.specs.Parts.{operand_tree}
+use Rattle.xpath_parser.specs.Machine.{closed, finished_in, finish_in, end_predicate, after_in, beginning, after}
 use Rattle.xpath_syntax.specs.Patterns.{IsChildOrAttribute, IsPredicate, IsStepPattern, IsRelativePattern, PathPart, IsPathPattern, bar, behind_bar, IsPattern}
-use Rattle.xpath_parser.specs.Stops.{BeginsBy}
+use Rattle.xpath_machine.specs.Stops.{BeginsBy}
 use Rattle.xpath_syntax.specs.PatternMachine.{from_context, root_alone, with_step, with_descendants, last_step, whole, with_predicate, begin_step, closes, after_predicate, after_path, alternative_at, at, next, is_bar, after_pattern, run_pattern, pattern_beginning, ended_with, finish_pattern}
 use Rattle.xpath_parser.proofs.Completeness.{reads_expr}
 use Rattle.xpath_parser.proofs.Endings.{outcome-run, begins}
 use Rattle.xpath_parser.proofs.Outcomes.{outcome}
-use Rattle.xpath_parser.specs.Advance.{ReadsBy}
+use Rattle.xpath_machine.specs.Advance.{ReadsBy}
 use Rattle.xpath_syntax.proofs.PatternStates.{AtPlace, Has, has_begun, has_run, has_finished}
 
 -- the pattern that tokens lead to

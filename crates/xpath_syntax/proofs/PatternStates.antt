@@ -17,8 +17,8 @@ use Rattle.xpath_parser.specs.declared.state.State.{State}
 use Rattle.xpath_tokens.specs.declared.symbol.Operator.TheVariants as operator
 use Rattle.xpath_tokens.specs.declared.symbol.Symbol.{Symbol}
 use Rattle.xpath_tokens.specs.declared.symbol.Symbol.TheVariants as symbol
-use Rattle.xpath_parser.specs.Trees.{step_of, any_descendant}
-use Rattle.xpath_parser.specs.Grammar.{Part, part, Stepped, stepped, IsAxis, IsTest, bracketed, trees, slash, behind_slash, widened, IsExpr}
+use Rattle.xpath_grammar.specs.Trees.{step_of, any_descendant}
+use Rattle.xpath_grammar.specs.Grammar.{Part, part, Stepped, stepped, IsAxis, IsTest, bracketed, trees, slash, behind_slash, widened, IsExpr}
 use Rattle.xpath_parser.specs.Machine.{beginning, run, after, finish}
 use Rattle.xpath_syntax.specs.Patterns.{IsChildOrAttribute, IsPredicate, IsStepPattern, IsRelativePattern, PathPart, path_part, IsFromAnywhere, IsFromRoot, IsPathPattern, bar, behind_bar, IsPattern}
 use Rattle.xpath_syntax.specs.PatternMachine.{from_context, root_alone, with_step, with_descendants, last_step, whole, with_predicate, after_axis, begin_step, after_beginning, after_last, closes, after_predicate, after_path, alternative_at, next, after_pattern, run_pattern, pattern_beginning, ended_with, finish_pattern}

@@ -1,3 +1,4 @@
 pub mod Patterns
 pub mod PatternMachine
 pub mod Reading
+pub mod Depth

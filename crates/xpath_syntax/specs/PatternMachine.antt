@@ -17,7 +17,7 @@ use Rattle.xpath_parser.specs.declared.state.State.{State}
 use Rattle.xpath_tokens.specs.declared.symbol.Operator.TheVariants as operator
 use Rattle.xpath_tokens.specs.declared.symbol.Symbol.{Symbol}
 use Rattle.xpath_tokens.specs.declared.symbol.Symbol.TheVariants as symbol
-use Rattle.xpath_parser.specs.Trees.{step_of, any_descendant}
+use Rattle.xpath_grammar.specs.Trees.{step_of, any_descendant}
 use Rattle.xpath_parser.specs.Machine.{is_open, is_close, is_colons, beginning, after, finish}
 
 -- Paths

@@ -14,7 +14,7 @@ use Rattle.xpath_trees.specs.declared.pattern.Pattern.{Pattern}
 use Rattle.xpath_tokens.specs.declared.symbol.Operator.TheVariants as operator
 use Rattle.xpath_tokens.specs.declared.symbol.Symbol.{Symbol}
 use Rattle.xpath_tokens.specs.declared.symbol.Symbol.TheVariants as symbol
-use Rattle.xpath_parser.specs.Grammar.{Part, Stepped, IsFullStep, slash, behind_slash, widened, steps_behind, IsExpr}
+use Rattle.xpath_grammar.specs.Grammar.{Part, Stepped, IsFullStep, slash, behind_slash, widened, steps_behind, IsExpr}
 
 -- Steps
 

@@ -12,9 +12,9 @@ use Rattle.xpath_syntax.specs.declared.reader.ExprFault.{ExprFault}
 use Rattle.xpath_syntax.specs.declared.reader.ExprFault.TheVariants as fault
 use Rattle.xpath_tokens.specs.Tokens.{tokens_of}
 use Rattle.xpath_tokens.specs.Symbols.{symbols_at}
-use Rattle.xpath_parser.specs.Grammar.{IsExpr}
+use Rattle.xpath_grammar.specs.Grammar.{IsExpr}
 use Rattle.xpath_syntax.specs.Patterns.{IsPattern}
-use Rattle.xpath_parser.specs.Stops.{HasTreeBy, IsStopBy}
+use Rattle.xpath_machine.specs.Stops.{HasTreeBy, IsStopBy}
 use Rattle.xpath_tokens.specs.Faults.{fault_among, fault_before}
 
 -- By a grammar, and by the first of the faults of tokens besides 20

@@ -4,12 +4,13 @@
 
 mod laws;
 mod pattern_laws;
+mod pattern_paths;
 mod pattern_reader;
 mod pattern_state;
 mod pattern_step;
 mod reader;
 
-pub use laws::{one_tree, readings_are_well_formed};
+pub use laws::{one_tree, readings_are_shallow, readings_are_well_formed};
 pub use pattern_laws::{one_pattern, pattern_readings_are_readings, patterns_are_expressions};
 pub use pattern_reader::read_pattern;
 pub use reader::{ExprFault, read_expr};

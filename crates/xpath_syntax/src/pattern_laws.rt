@@ -4,7 +4,7 @@ ghost use Rattle.std.specs.Prelude.{◌≡◌, ℕ, List};
 ghost use Rattle.serna_kinds.specs.Names.{NameParts, Space};
 ghost use Rattle.xpath_tokens.specs.declared.symbol.Symbol.{Symbol};
 ghost use Rattle.xpath_trees.specs.declared.pattern.Pattern.{Pattern};
-ghost use Rattle.xpath_parser.specs.Grammar.{IsExpr};
+ghost use Rattle.xpath_grammar.specs.Grammar.{IsExpr};
 ghost use Rattle.xpath_syntax.specs.Patterns.{IsPattern, expression_of};
 ghost use Rattle.xpath_syntax.specs.Reading.{IsReading, IsPatternReading};
 

@@ -1,131 +1,26 @@
 //! How a token moves the reader of a pattern.
 
 ghost use Rattle.std.specs.Prelude.{◌≡◌, ◌++◌, [], ◌∷◌, IfOk, Some, None, option_map};
-ghost use Rattle.xpath_parser.specs.Trees.{step_of};
 ghost use Rattle.xpath_parser.specs.Machine.{finish, after};
-ghost use Rattle.xpath_syntax.specs.PatternMachine.{from_context, root_alone, with_step, with_descendants, last_step, whole, with_predicate, is_bar, is_close_bracket, on_axis, begin_step, after_axis, after_beginning, after_last, closes, after_predicate, alternative_at, next, after_path, after_pattern, pattern_beginning, finish_pattern};
+ghost use Rattle.xpath_syntax.specs.PatternMachine.{from_context, root_alone, last_step, whole, with_predicate, on_axis, begin_step, after_axis, after_beginning, after_last, closes, after_predicate, alternative_at, next, after_path, after_pattern, pattern_beginning, finish_pattern};
 
 use crate::NoMemory;
+use crate::pattern_paths::{
+    from_context, is_bar, is_close_bracket, last_step, root_alone, whole, with_descendants,
+    with_predicate,
+};
 use crate::pattern_state::{LastStep, PatternPlace, PatternState};
 use serna_kinds::{Axis, NodeTest};
 use sqlite_items::Items;
 use std::alloc::Global;
-use xpath_parser::parse::Machine;
-use xpath_parser::step::{
-    beginning, end_predicate, is_close, is_colons, is_open, put_together, step,
+use xpath_grammar::Operand;
+use xpath_machine::Machine;
+use xpath_parser::step::{beginning, step};
+use xpath_parser::{
+    Pending, Place, State, end_predicate, is_close, is_colons, is_open, put_together,
 };
-use xpath_parser::{Operand, Pending, Place, State, step_of};
-use xpath_tokens::{Operator, Stack, Symbol};
-use xpath_trees::{Alternative, Expr, Pattern, Step};
-
-fn is_bar(symbol: &Symbol) -> bool
-    ensures { result ≡ is_bar symbol.now }
-{
-    match symbol {
-        Symbol::Operator(operator) => match operator {
-            Operator::Union => true,
-            _ => false,
-        },
-        _ => false,
-    }
-}
-
-fn is_close_bracket(symbol: &Symbol) -> bool
-    ensures { result ≡ is_close_bracket symbol.now }
-{
-    match symbol {
-        Symbol::CloseBracket => true,
-        _ => false,
-    }
-}
-
-// Paths
-
-/// A path without steps, from any node.
-fn from_context(alloc: Global) -> Alternative
-    ensures { result ≡ from_context }
-{
-    Alternative {
-        from_root: false,
-        steps: Items::new(alloc),
-    }
-}
-
-/// `/` alone.
-fn root_alone(alloc: Global) -> Alternative
-    ensures { result ≡ root_alone }
-{
-    Alternative {
-        from_root: true,
-        steps: Items::new(alloc),
-    }
-}
-
-fn with_step(path: Alternative, step: Step) -> Result<Alternative, NoMemory>
-    ensures { IfOk result (λ longer. longer ≡ with_step path step) }
-{
-    let Alternative {
-        from_root,
-        mut steps,
-    } = path;
-    steps.push(step)?;
-    Ok(Alternative { from_root, steps })
-}
-
-/// The path with the step that `//` stands for.
-fn with_descendants(alloc: Global, path: Alternative) -> Result<Alternative, NoMemory>
-    ensures { IfOk result (λ longer. longer ≡ with_descendants path) }
-{
-    with_step(
-        path,
-        step_of(Axis::DescendantOrSelf, NodeTest::AnyNode, Items::new(alloc)),
-    )
-}
-
-// Steps
-
-/// A step without predicates so far.
-fn last_step(alloc: Global, before: Alternative, axis: Axis, test: NodeTest) -> LastStep
-    ensures { result ≡ last_step before axis test }
-{
-    LastStep {
-        before,
-        axis,
-        test,
-        predicates: Items::new(alloc),
-    }
-}
-
-/// The path with its last step.
-fn whole(last: LastStep) -> Result<Alternative, NoMemory>
-    ensures { IfOk result (λ path. path ≡ whole last) }
-{
-    let LastStep {
-        before,
-        axis,
-        test,
-        predicates,
-    } = last;
-    with_step(before, step_of(axis, test, predicates))
-}
-
-fn with_predicate(last: LastStep, tree: Expr) -> Result<LastStep, NoMemory>
-    ensures { IfOk result (λ longer. longer ≡ with_predicate last tree) }
-{
-    let LastStep {
-        before,
-        axis,
-        test,
-        mut predicates,
-    } = last;
-    predicates.push(tree)?;
-    Ok(LastStep {
-        before,
-        axis,
-        test,
-        predicates,
-    })
-}
+use xpath_tokens::{Stack, Symbol};
+use xpath_trees::{Alternative, Pattern};
 
 /// The name of an axis, which may be child or attribute.
 fn on_axis(before: Alternative, axis: Axis) -> Option<PatternPlace>

@@ -7,15 +7,15 @@ ghost use Rattle.xpath_trees.specs.declared.expr.Expr.{Expr};
 ghost use Rattle.xpath_tokens.specs.declared.faults.ExprRule.{ExprRule};
 ghost use Rattle.xpath_tokens.specs.Tokens.{IsCut, tokens_of};
 ghost use Rattle.xpath_tokens.specs.Faults.{place_of, fault_before};
-ghost use Rattle.xpath_parser.specs.Advance.{ReadsBy};
+ghost use Rattle.xpath_machine.specs.Advance.{ReadsBy};
 ghost use Rattle.xpath_syntax.specs.Reading.{IsReading, IsFirstFault, IsReadAs};
 ghost use Rattle.xpath_tokens.specs.Named.{HasNames, names_of, with_names};
 
 use crate::NoMemory;
 use serna_kinds::{NameTable, Spaces};
 use std::alloc::Global;
+use xpath_machine::{Machine, parse};
 use xpath_parser::State;
-use xpath_parser::parse::{Machine, parse};
 use xpath_tokens::{ExprRule, ReadAs, Token, fault_among, symbols_at, tokens_of};
 use xpath_trees::Expr;
 

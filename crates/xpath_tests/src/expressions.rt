@@ -1,3 +1,5 @@
+//! Expressions: their first faults, the limits, and their canonical texts.
+
 use serna_kinds::{Chars, NameTable, Spaces};
 use std::test::Fail;
 use xpath_syntax::{ExprFault, ExprRule, read_expr};

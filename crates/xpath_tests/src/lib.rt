@@ -1,5 +1,5 @@
-//! Tables of tests of expressions and patterns, by what the crates xpath_syntax and xpath_writer offer. They stand in a crate of
-//! their own, since a crate with tests is proved a second time with them.
+//! Tables of tests of expressions, patterns and values, by what the crates xpath_syntax, xpath_writer and xpath_values offer. They
+//! stand in a crate of their own, since a crate with tests is proved a second time with them.
 #![tactic(auto)]
 
 #[cfg(test)]
@@ -8,3 +8,5 @@ mod expressions;
 mod patterns;
 #[cfg(test)]
 mod trees;
+#[cfg(test)]
+mod values;

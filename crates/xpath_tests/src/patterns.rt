@@ -1,3 +1,5 @@
+//! Patterns: their first faults, and the steps that are read.
+
 use crate::expressions::{number_of, repeated};
 use serna_kinds::{Axis, NameTable, Spaces};
 use std::test::Fail;

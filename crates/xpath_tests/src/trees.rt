@@ -1,3 +1,5 @@
+//! The trees of expressions, and the names in them.
+
 use serna_kinds::{Name, NameTable, NodeTest, Spaces};
 use std::test::Fail;
 use xpath_syntax::{Expr, PathStart, read_expr};

@@ -27,11 +27,11 @@ use Rattle.xpath_tokens.specs.declared.symbol.Operator.{Operator}
 use Rattle.xpath_tokens.specs.declared.symbol.Operator.TheVariants as operator
 use Rattle.xpath_tokens.specs.declared.symbol.Symbol.{Symbol}
 use Rattle.xpath_tokens.specs.declared.symbol.Symbol.TheVariants as symbol
-use Rattle.xpath_parser.specs.declared.state.Level.{Level}
+use Rattle.xpath_grammar.specs.declared.operand.Level.{Level}
 use Rattle.xpath_tokens.specs.declared.tokens.Kind.{Kind}
 use Rattle.xpath_tokens.specs.declared.tokens.Kind.TheVariants as kind
-use Rattle.xpath_parser.specs.Trees.{rank, step_of, chain_tree, signs_past, signed, filtered}
-use Rattle.xpath_parser.specs.Grammar.{Part, IsTest, trees, IsExpr}
+use Rattle.xpath_grammar.specs.Trees.{rank, step_of, chain_tree, signs_past, signed, filtered}
+use Rattle.xpath_grammar.specs.Grammar.{Part, IsTest, trees, IsExpr}
 use Rattle.serna_kinds.specs.Qualified.{prefix_of, uri_for, attribute_uri, xml_prefix, xml_uri}
 use Rattle.xpath_tokens.specs.Symbols.{node_types, function_named}
 use Rattle.xpath_tokens.specs.declared.faults.ReadAs.TheVariants as how

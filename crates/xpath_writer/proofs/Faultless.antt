@@ -9,7 +9,7 @@ use Rattle.xpath_trees.specs.declared.expr.Expr.{Expr}
 use Rattle.xpath_tokens.specs.declared.tokens.Kind.{Kind}
 use Rattle.xpath_tokens.specs.declared.tokens.Kind.TheVariants as kind
 use Rattle.xpath_tokens.specs.declared.tokens.Token.{Token}
-use Rattle.xpath_parser.specs.Grammar.{IsExpr}
+use Rattle.xpath_grammar.specs.Grammar.{IsExpr}
 use Rattle.xpath_tokens.specs.Tokens.{token_at, tokens_of}
 use Rattle.xpath_tokens.specs.Symbols.{written_at, node_types, function_named, symbols_at}
 use Rattle.xpath_tokens.specs.declared.faults.ReadAs.TheVariants as how

@@ -7,7 +7,7 @@ use Rattle.std.proofs.lemmas.Str.{IsUtf8-from_is_utf8}
 use Rattle.serna_kinds.specs.Names.{NameParts, Space}
 use Rattle.serna_kinds.specs.Lookups.{AreTexts}
 use Rattle.xpath_trees.specs.declared.expr.Expr.{Expr}
-use Rattle.xpath_parser.specs.Stops.{IsShallow}
+use Rattle.xpath_machine.specs.Stops.{IsShallow}
 use Rattle.xpath_syntax.specs.Reading.{IsReading}
 use Rattle.xpath_tokens.specs.Symbols.{symbols_at}
 use Rattle.xpath_tokens.specs.Tokens.{tokens_of}

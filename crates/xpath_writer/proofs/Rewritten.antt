@@ -16,11 +16,11 @@ use Rattle.xpath_tokens.specs.declared.symbol.Operator.{Operator}
 use Rattle.xpath_tokens.specs.declared.symbol.Operator.TheVariants as operator
 use Rattle.xpath_tokens.specs.declared.symbol.Symbol.{Symbol}
 use Rattle.xpath_tokens.specs.declared.symbol.Symbol.TheVariants as symbol
-use Rattle.xpath_parser.specs.declared.state.Level.{Level}
-use Rattle.xpath_parser.specs.declared.state.Level.TheVariants as level
+use Rattle.xpath_grammar.specs.declared.operand.Level.{Level}
+use Rattle.xpath_grammar.specs.declared.operand.Level.TheVariants as level
 use Rattle.xpath_tokens.specs.declared.tokens.Kind.TheVariants as kind
-use Rattle.xpath_parser.specs.Trees.{level_of, rank, compared, computed, operands, chain_tree, signs_past, signed}
-use Rattle.xpath_parser.specs.Grammar.{Part, part, further, chain, IsChain, signs, IsSigned, IsPrimary, IsFilter, IsPath}
+use Rattle.xpath_grammar.specs.Trees.{level_of, rank, compared, computed, operands, chain_tree, signs_past, signed}
+use Rattle.xpath_grammar.specs.Grammar.{Part, part, further, chain, IsChain, signs, IsSigned, IsPrimary, IsFilter, IsPath}
 use Rattle.xpath_tokens.specs.Symbols.{symbol_of}
 use Rattle.xpath_writer.specs.Writing.{Word, Written, operand, joined, each_behind, chain_of, compares_rank, ariths_rank, compared_words, computed_words, is_named, operator_kind, mark_text, sign_words, grouped, mark, shown, symbols_in, AreTokens, Lexes, IsLeaf}
 use Rattle.xpath_writer.proofs.Lexed.{operator_follows, lexes_operand, lexes_signs}

@@ -17,13 +17,13 @@ use Rattle.xpath_trees.specs.declared.expr.Step.{Step, out-Step}
 use Rattle.xpath_trees.specs.declared.expr.Expr.TheViews.{roll-out-Step}
 use Rattle.xpath_tokens.specs.declared.symbol.Symbol.{Symbol}
 use Rattle.xpath_tokens.specs.declared.symbol.Symbol.TheVariants as symbol
-use Rattle.xpath_parser.specs.declared.state.Level.TheVariants as level
+use Rattle.xpath_grammar.specs.declared.operand.Level.TheVariants as level
 use Rattle.xpath_tokens.specs.declared.tokens.Kind.{Kind}
 use Rattle.xpath_tokens.specs.declared.tokens.Kind.TheVariants as kind
-use Rattle.xpath_parser.specs.Trees.{step_of, self_node, parent_node, any_descendant, filtered}
+use Rattle.xpath_grammar.specs.Trees.{step_of, self_node, parent_node, any_descendant, filtered}
 use Rattle.xpath_tokens.specs.Tokens.{tokens_of}
 use Rattle.xpath_tokens.specs.Symbols.{symbol_of, symbols_at}
-use Rattle.xpath_parser.specs.Grammar.{Part, part, Stepped, stepped, IsAxis, IsTest, bracketed, trees, IsFullStep, IsStep, slash, behind_slash, widened, steps_behind, AreSteps, IsRelative, IsAbsolute, root_alone, arguments, IsCall, IsPrimary, IsFilter, IsPathFrom, IsPath, IsUnion, IsUnary, IsMultiplicative, IsAdditive, IsRelational, IsEquality, IsAnd, IsOr, IsExprIn, IsExpr}
+use Rattle.xpath_grammar.specs.Grammar.{Part, part, Stepped, stepped, IsAxis, IsTest, bracketed, trees, IsFullStep, IsStep, slash, behind_slash, widened, steps_behind, AreSteps, IsRelative, IsAbsolute, root_alone, arguments, IsCall, IsPrimary, IsFilter, IsPathFrom, IsPath, IsUnion, IsUnary, IsMultiplicative, IsAdditive, IsRelational, IsEquality, IsAnd, IsOr, IsExprIn, IsExpr}
 use Rattle.xpath_writer.specs.Writing.{Word, Written, WrittenStep, operand, mark, is_slash, is_empty, is_any_node, is_bare, is_descendant_or_self, short_or, short_kind, short_for, axis_words, test_words, full_step, predicate_words, further_arguments, argument_words, steps_words, absolute_words, root_words, function_text, shown_start, shown_step, written, AreTokens, MayFollow, Lexes, IsLeaf}
 use Rattle.xpath_writer.proofs.Shown.{shown-step_of, shown-Path, shown-Filter, shown-Call, shown-Context, shown-Root, shown-From}
 use Rattle.xpath_parser.proofs.Soundness.{lift}

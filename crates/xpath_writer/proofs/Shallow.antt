@@ -18,14 +18,14 @@ use Rattle.xpath_tokens.specs.declared.symbol.Operator.{Operator}
 use Rattle.xpath_tokens.specs.declared.symbol.Operator.TheVariants as operator
 use Rattle.xpath_tokens.specs.declared.symbol.Symbol.{Symbol}
 use Rattle.xpath_tokens.specs.declared.symbol.Symbol.TheVariants as symbol
-use Rattle.xpath_parser.specs.declared.state.Level.{Level}
-use Rattle.xpath_parser.specs.declared.state.Level.TheVariants as level
+use Rattle.xpath_grammar.specs.declared.operand.Level.{Level}
+use Rattle.xpath_grammar.specs.declared.operand.Level.TheVariants as level
 use Rattle.xpath_tokens.specs.declared.tokens.Kind.{Kind}
 use Rattle.xpath_tokens.specs.declared.tokens.Kind.TheVariants as kind
-use Rattle.xpath_parser.specs.Stops.{next_depth, IsShallowFrom, IsShallow}
+use Rattle.xpath_machine.specs.Stops.{next_depth, IsShallowFrom, IsShallow}
 use Rattle.xpath_tokens.specs.Symbols.{symbol_of}
-use Rattle.xpath_parser.specs.Trees.{level_of, rank, step_of, self_node, parent_node, any_descendant, signs_past, signed, filtered}
-use Rattle.xpath_parser.specs.Grammar.{Part, part, further, chain, IsChain, signs, IsSigned, Stepped, IsAxis, IsTest, bracketed, trees, IsStep, slash, behind_slash, steps_behind, AreSteps, arguments, IsPrimary, IsFilter, IsPath, IsUnion, IsUnary, IsMultiplicative, IsAdditive, IsRelational, IsEquality, IsAnd, IsOr, IsExprIn, IsExpr}
+use Rattle.xpath_grammar.specs.Trees.{level_of, rank, step_of, self_node, parent_node, any_descendant, signs_past, signed, filtered}
+use Rattle.xpath_grammar.specs.Grammar.{Part, part, further, chain, IsChain, signs, IsSigned, Stepped, IsAxis, IsTest, bracketed, trees, IsStep, slash, behind_slash, steps_behind, AreSteps, arguments, IsPrimary, IsFilter, IsPath, IsUnion, IsUnary, IsMultiplicative, IsAdditive, IsRelational, IsEquality, IsAnd, IsOr, IsExprIn, IsExpr}
 use Rattle.xpath_writer.specs.Writing.{Word, Written, WrittenStep, operand, joined, grouped, mark, mark_text, is_named, operator_kind, sign_words, is_empty, is_bare, short_or, short_for, axis_words, test_words, type_words, full_step, predicate_words, argument_words, steps_words, root_words, axis_text, function_text, shown_start, IsLeaf}
 use Rattle.xpath_syntax.proofs.Arity.{all-append}
 use Rattle.xpath_syntax.proofs.Levels.{AreAt}

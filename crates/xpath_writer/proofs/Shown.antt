@@ -5,7 +5,7 @@ use Rattle.serna_kinds.specs.Names.{NameParts, Space}
 use Rattle.serna_kinds.specs.declared.cells.NameId.{NameId}
 use Rattle.serna_kinds.specs.declared.expressions.Axis.{Axis}
 use Rattle.serna_kinds.specs.declared.expressions.NodeTest.{NodeTest}
-use Rattle.xpath_parser.specs.Trees.{step_of}
+use Rattle.xpath_grammar.specs.Trees.{step_of}
 use Rattle.serna_kinds.specs.declared.expressions.CompareOp.{CompareOp}
 use Rattle.xpath_trees.specs.declared.expr.ArithOp.{ArithOp}
 use Rattle.xpath_trees.specs.declared.expr.Function.{Function}

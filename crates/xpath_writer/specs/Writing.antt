@@ -37,7 +37,7 @@ use Rattle.xpath_tokens.specs.declared.tokens.Kind.TheVariants as kind
 use Rattle.serna_kinds.specs.Blanks.{is_space}
 use Rattle.xpath_tokens.specs.Tokens.{front, ends_operand, name_before, without_spaces}
 use Rattle.xpath_tokens.specs.Symbols.{uri_in, symbol_of}
-use Rattle.xpath_parser.specs.Trees.{compare_level, arith_level, rank}
+use Rattle.xpath_grammar.specs.Trees.{compare_level, arith_level, rank}
 
 -- a token by its kind and as it is written
 abbrev pub Word : Type 0

@@ -2,7 +2,7 @@ use Rattle.std.proofs.Common.{◌≡◌, ◌∙◌, List, OnOk, subst}
 use Rattle.serna_kinds.specs.Names.{NameParts, Grows}
 use Rattle.xpath_tokens.specs.declared.faults.ReadAs.TheVariants as how
 use Rattle.xpath_tokens.specs.Faults.{fault_among, fault_before}
-use Rattle.xpath_parser.specs.Grammar.{IsExpr}
+use Rattle.xpath_grammar.specs.Grammar.{IsExpr}
 use Rattle.xpath_syntax.specs.Reading.{HasReading, HasFault, IsReadAs}
 use Rattle.xpath_tokens.specs.Symbols.{symbols_of}
 use Rattle.xpath_tokens.specs.Tokens.{tokens_of}

@@ -1,7 +1,7 @@
 use Rattle.std.proofs.Common.{List, sym, subst, inl, inr}
 use Rattle.serna_kinds.specs.Names.{NameParts}
 use Rattle.xpath_tokens.specs.declared.symbol.Symbol.{Symbol}
-use Rattle.xpath_parser.specs.Stops.{HasTreeBy, IsStopBy, IsParsedBy}
+use Rattle.xpath_machine.specs.Stops.{HasTreeBy, IsStopBy, IsParsedBy}
 use Rattle.xpath_tokens.specs.Symbols.{symbols_at}
 use Rattle.xpath_syntax.proofs.Answering.{stop_within, by_table}
 use Rattle.xpath_syntax.proofs.reader.read_tokens.Goals as goal

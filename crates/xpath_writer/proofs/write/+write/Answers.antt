@@ -9,7 +9,7 @@ use Rattle.xpath_trees.specs.declared.expr.Expr.{Expr}
 use Rattle.xpath_trees.specs.declared.expr.ArithOp.{ArithOp}
 use Rattle.xpath_trees.specs.declared.expr.PathStart.{PathStart}
 use Rattle.xpath_trees.specs.declared.expr.Step.{Step}
-use Rattle.xpath_parser.specs.Trees.{rank}
+use Rattle.xpath_grammar.specs.Trees.{rank}
 use Rattle.xpath_tokens.specs.declared.symbol.Operator.{Operator}
 use Rattle.xpath_tokens.specs.declared.symbol.Operator.TheVariants as operator
 use Rattle.xpath_tokens.specs.declared.tokens.Kind.TheVariants as kind

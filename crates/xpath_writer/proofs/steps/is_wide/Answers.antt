@@ -2,7 +2,7 @@
 use Rattle.std.proofs.Common.{◌&&◌, sym, ap, ◌∙◌}
 use Rattle.xpath_writer.specs.Writing.{is_bare}
 use Rattle.xpath_writer.proofs.Writes.{wide-is}
-use Rattle.xpath_writer.proofs.write.is_wide.Goals as goal
+use Rattle.xpath_writer.proofs.steps.is_wide.Goals as goal
 
 pub returns-then-is_descendant_or_self : goal.returns-then-is_descendant_or_self
 returns-then-is_descendant_or_self c =

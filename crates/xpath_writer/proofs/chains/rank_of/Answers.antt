@@ -3,7 +3,7 @@ use Rattle.std.proofs.Common.{ap, ◌∙◌, sym}
 use Rattle.xpath_writer.specs.Writing.{compares_rank, ariths_rank, shown}
 use Rattle.xpath_writer.proofs.Writes.{compares_rank-map, ariths_rank-map}
 use Rattle.xpath_writer.proofs.Shown.{ranked, shown-Or, shown-And, shown-Compare, shown-Arith, shown-Negate, shown-Union, shown-Path, shown-Filter, shown-Text, shown-Number, shown-Variable, shown-Call}
-use Rattle.xpath_writer.proofs.write.rank_of.Goals as goal
+use Rattle.xpath_writer.proofs.chains.rank_of.Goals as goal
 
 pub returns-in-Or : goal.returns-in-Or
 returns-in-Or c = ranked c.args.spaces.now c.args.names.now _ _ _ c.in-Or.is (shown-Or c.args.spaces.now c.args.names.now c.in-Or.field-0)
