@@ -1,0 +1,6 @@
+pub mod Longest
+pub mod Places
+pub mod Parting
+pub mod Filled
+pub mod LineLaws
+pub mod Shown
